@@ -1,0 +1,2 @@
+pub mod Faults
+pub use Rattle.store_model.specs.Key

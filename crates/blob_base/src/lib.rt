@@ -1,0 +1,10 @@
+//! Keys, bytes and the other lists, and the faults that calls answer.
+#![tactic(auto)]
+
+mod faults;
+mod key;
+mod lists;
+
+pub use faults::{IoFault, OutOfMemory, StoreRefusal};
+pub use key::{BadKey, Key};
+pub use lists::{Bytes, Bytes64, Keys, Listed, Names, Numbers, Owned, Word};

@@ -1,0 +1,10 @@
+pub mod SortedEntries
+pub mod Pages
+pub mod Objects
+pub mod Commits
+pub mod Turns
+pub mod Leads
+pub mod OnTheWay
+pub mod Splitting
+pub mod OtherWords
+pub mod CommandWords

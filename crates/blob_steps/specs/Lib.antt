@@ -1,0 +1,9 @@
+pub mod Words
+pub mod Endings
+pub mod Answers
+pub mod Lines
+pub mod Coding
+pub mod Sessions
+pub mod Worlds
+pub mod Steps
+pub mod Runs

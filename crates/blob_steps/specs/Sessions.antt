@@ -1,0 +1,43 @@
+-- Sessions as the values that the definitions speak of.
+use Rattle.std.specs.Prelude.{◌≡◌, ℕ, List, Option, true, false}
+use Rattle.std.specs.FinMap.{contains_key, len}
+use Rattle.store_model.specs.Group.{transaction_of}
+use Rattle.blob_steps.specs.declared.session.Session.{Session}
+use Rattle.blob_steps.specs.declared.session.Session.TheVariants as session
+use Rattle.blob_steps.specs.declared.session.Reading.{Reading}
+use Rattle.blob_steps.specs.declared.session.Reading.TheVariants as reading
+use Rattle.store_model.specs.Transaction.{Transaction}
+use Rattle.store_model.specs.Turn.{is_one_too_many, is_stale, with_read}
+use Rattle.store_model.specs.Turn as model
+use Rattle.store_model.specs.Answer as answer
+use Rattle.store_model.specs.Store.{Store, content_at}
+use Rattle.blob_steps.specs.declared.session.Got.{Got}
+use Rattle.blob_steps.specs.declared.session.Got.TheVariants as got
+use Rattle.blob_steps.specs.Answers.{model_line}
+
+abbrev pub model_session : Session → model.Session
+model_session session.Free = model.Free
+model_session (session.Open transaction) = model.Open transaction
+model_session (session.Waiting transaction) = model.Waiting transaction
+
+-- the key isn't one too many, nor stale, and its number was recorded where it was untouched
+pub record IsRead (old : Transaction) (key : List ℕ) (now : Option ℕ) (new : Transaction) : Type 0 where
+  pub room : is_one_too_many old key ≡ false
+  pub fresh : is_stale now old key ≡ false
+  pub recorded : new ≡ with_read now old key
+
+-- how a read of a key whose number now is this one went
+abbrev pub ReadGives : Transaction → List ℕ → Option ℕ → Reading → Transaction → Type 0
+ReadGives old key now reading.TooMany new = (is_one_too_many old key ≡ true) × (new ≡ old)
+ReadGives old key now reading.Stale new = (is_one_too_many old key ≡ false) × (is_stale now old key ≡ true) × (new ≡ old)
+ReadGives old key now reading.Own new = (contains_key old.changes key ≡ true) × IsRead old key now new
+ReadGives old key now reading.Stored new = (contains_key old.changes key ≡ false) × IsRead old key now new
+
+-- the line of a get over this store
+abbrev pub got_line : Store → List ℕ → Got → answer.AnswerLine
+got_line store key (got.Line line) = model_line line
+got_line store key got.Stored = model.shown (content_at store key)
+
+-- how many changes a session has made
+abbrev pub change_count : model.Session → ℕ
+change_count session = len (transaction_of session).changes

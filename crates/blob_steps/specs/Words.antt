@@ -1,0 +1,24 @@
+-- The types of words and lines as the values that the definitions speak of.
+use Rattle.blob_steps.specs.declared.form.Form.{Form}
+use Rattle.blob_steps.specs.declared.form.Form.TheVariants as form
+use Rattle.blob_steps.specs.declared.script.Action.{Action}
+use Rattle.blob_steps.specs.declared.script.Action.TheVariants as action
+use Rattle.blob_steps.specs.declared.script.Step.{Step}
+use Rattle.blob_steps.specs.declared.script.Step.TheVariants as step
+use Rattle.store_model.specs.Layout.{Layout}
+use Rattle.store_model.specs.Turn as turn
+use Rattle.store_model.specs.Script as model
+
+-- the layout that a form asks for
+abbrev pub layout_of : Form → Layout
+layout_of (form.Fresh layout) = layout
+
+abbrev pub model_action : Action → turn.Action
+model_action action.Begin = turn.Begin
+model_action action.Commit = turn.Commit
+model_action (action.Get key) = turn.Get key
+model_action (action.Put key content) = turn.Put key content
+
+abbrev pub model_step : Step → model.Step
+model_step (step.Session session action) = model.Session session (model_action action)
+model_step step.Lead = model.Lead

@@ -1,0 +1,106 @@
+// The answers to a script's lines, as they are printed.
+
+ghost use Rattle.std.specs.Prelude.{◌≡◌, ◌++◌, OnOk, decimal};
+ghost use Rattle.store_model.specs.Answer.{line_text, Value};
+ghost use Rattle.blob_steps.specs.Answers.{model_line, text_of};
+
+use blob_base::{Bytes, OutOfMemory};
+use std::alloc::Global;
+
+/// What stands behind the session in the answer to a session's line.
+#[derive(Drop)]
+pub(crate) enum AnswerLine {
+    Begun,
+    Value { content: Bytes },
+    Put,
+    Queued,
+    Busy,
+    Already,
+    NoTransaction,
+    TooMany { keys: u32 },
+    Stale { now: Option<u64> },
+    Absent,
+    Committed { number: u64 },
+}
+
+/// The answer to a line.
+#[derive(Drop)]
+pub(crate) enum Answer {
+    Session { session: u8, line: AnswerLine },
+    Idle,
+}
+
+impl Answer {
+    /// Adds the answer as a line, with its end.
+    pub(crate) fn print(&self, alloc: Global, out: &mut Bytes) -> Result<(), OutOfMemory>
+        ensures { OnOk result (out.new ≡ out.old ++ text_of self.now) }
+    {
+        match self {
+            Answer::Session { session, line } => {
+                append_number(alloc, out, u64::from(*session))?;
+                out.append(alloc, b" ")?;
+                line.print(alloc, out)?;
+            }
+            Answer::Idle => out.append(alloc, b"idle")?,
+        }
+        out.append(alloc, b"\n")
+    }
+}
+
+impl AnswerLine {
+    fn print(&self, alloc: Global, out: &mut Bytes) -> Result<(), OutOfMemory>
+        ensures { OnOk result (out.new ≡ out.old ++ line_text (model_line self.now)) }
+    {
+        match self {
+            AnswerLine::Begun => out.append(alloc, b"begun"),
+            AnswerLine::Value { content } => append_value(alloc, out, content.as_slice()),
+            AnswerLine::Put => out.append(alloc, b"put"),
+            AnswerLine::Queued => out.append(alloc, b"queued"),
+            AnswerLine::Busy => out.append(alloc, b"busy"),
+            AnswerLine::Already => out.append(alloc, b"already"),
+            AnswerLine::NoTransaction => out.append(alloc, b"no-transaction"),
+            AnswerLine::TooMany { keys } => append_labelled(
+                alloc,
+                out,
+                b"too-many ",
+                u64::from(*keys),
+            ),
+            AnswerLine::Stale { now: Some(now) } => append_labelled(alloc, out, b"stale ", *now),
+            AnswerLine::Stale { now: None } => out.append(alloc, b"stale none"),
+            AnswerLine::Absent => out.append(alloc, b"absent"),
+            AnswerLine::Committed { number } => append_labelled(alloc, out, b"committed ", *number),
+        }
+    }
+}
+
+// Adds a number in decimal.
+fn append_number(alloc: Global, out: &mut Bytes, number: u64) -> Result<(), OutOfMemory>
+    ensures { OnOk result (out.new ≡ out.old ++ decimal number) }
+{
+    out.append(alloc, itoa::Buffer::new().format(number).as_bytes())
+}
+
+// Adds a label and a number behind it.
+fn append_labelled(
+    alloc: Global,
+    out: &mut Bytes,
+    label: &[u8],
+    number: u64,
+) -> Result<(), OutOfMemory>
+    ensures { OnOk result (out.new ≡ out.old ++ (label.now ++ decimal number)) }
+{
+    out.append(alloc, label)?;
+    append_number(alloc, out, number)
+}
+
+// Adds a content's size and its bytes.
+fn append_value(alloc: Global, out: &mut Bytes, content: &[u8]) -> Result<(), OutOfMemory>
+    ensures { OnOk result (out.new ≡ out.old ++ line_text (Value content.now)) }
+{
+    append_labelled(alloc, out, b"value ", content.len() as u64)?;
+    if content.is_empty() {
+        return out.append(alloc, b" -");
+    }
+    out.append(alloc, b" ")?;
+    out.append(alloc, hex::encode(alloc, content)?.as_bytes())
+}

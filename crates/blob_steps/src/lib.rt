@@ -1,0 +1,17 @@
+//! The program over any source, sink and disk: a script's lines are read and answered one by one.
+#![tactic(auto)]
+
+mod answer;
+mod form;
+mod key_map;
+mod line;
+mod run;
+mod script;
+mod session;
+mod status;
+mod store;
+mod world;
+
+pub use form::Form;
+pub use run::run_alone;
+pub use status::Status;

@@ -1,0 +1,382 @@
+// The run of a command line over a source, a sink and a disk.
+
+ghost use Rattle.std.specs.Prelude.{◌≡◌, ◌≢◌, ◌⊎◌, ◌↔◌, ◌<◌, ◌≤◌, ◌++◌, ◌+◌, ℕ, [], List, Option, Some, None, Ok, Err, take, length, OnOk, OnErr, IfOk, IfErr, IfSome, MatchBool, MatchOption, MatchResult, IsTrue, true, false};
+ghost use Rattle.std.specs.Io.KnownBytes.{prepend_known, Appends};
+ghost use Rattle.blob_base.specs.Faults.{Rose};
+ghost use Rattle.blob_base.specs.declared.faults.StoreRefusal.{StoreRefusal};
+ghost use Rattle.blob_base.specs.declared.faults.StoreRefusal.TheVariants.{TooSmall};
+ghost use Rattle.store_model.specs.Disk.{Image};
+ghost use Rattle.store_model.specs.Form.{IsFresh};
+ghost use Rattle.store_model.specs.Layout.{Layout as LayoutParts, total_pages};
+ghost use Rattle.store_model.specs.Group.{World as ModelWorld, new_world};
+ghost use Rattle.store_model.specs.Play.{Played, play, step_play};
+ghost use Rattle.store_model.specs.Script.{Step as ModelStep};
+ghost use Rattle.blob_steps.specs.Steps.{Stands, IsDone, IsPlayed, weight};
+ghost use Rattle.blob_steps.specs.Words.{model_step};
+ghost use Rattle.blob_steps.specs.Answers.{text_of};
+ghost use Rattle.blob_steps.specs.Lines.{NoLine};
+ghost use Rattle.blob_steps.specs.Runs.{Closed, Counts, Ended, EndsPrinting, EndsReading, EndsStep, Going, HasReason, IsAccepted, IsRunning, IsTurnedAway, Later, SomeLine, TakesStep, disk_ending, reading_ending};
+
+use crate::form::Form;
+use crate::line::{Found, LineFault, LineReader};
+use crate::script::Step;
+use crate::status::Status;
+use crate::world::World;
+use blob_base::{Bytes, IoFault, StoreRefusal, Word};
+use disk_model::{Disk, Layout};
+use io_ends::{Sink, Source, put_all};
+use std::alloc::Global;
+
+// How many lines a script may have.
+const MAX_LINES: u64 = 16;
+
+// A run on the way.
+#[derive(Drop)]
+struct Run {
+    reader: LineReader,
+    world: World,
+    line: Bytes,
+    text: Bytes,
+}
+
+// Prints a text.
+fn print<K: Sink>(sink: &mut K, text: &[u8]) -> Result<(), Status>
+    ensures ok { OnOk result (Appends (K.taken sink.old) (K.taken sink.new) text.now) }
+    ensures front { OnErr result ((gone : ℕ) × Appends (K.taken sink.old) (K.taken sink.new) (take gone text.now)) }
+    ensures ends { IfErr result (λ status.
+        EndsPrinting status (K.frugal sink.old) (K.faults sink.old) (K.faults sink.new)) }
+    ensures faults { K.faults sink.old ≤ K.faults sink.new }
+    ensures frugal { K.frugal sink.new ≡ K.frugal sink.old }
+{
+    match put_all(sink, text) {
+        Ok(()) => Ok(()),
+        Err(fault) => Err(match fault.cause {
+            IoFault::Failed => Status::WriteFault,
+            IoFault::OutOfMemory => Status::OutOfMemory,
+        }),
+    }
+}
+
+impl Run {
+    fn new(alloc: Global, layout: Layout) -> Run
+        ensures reader { result.reader ≡ [] }
+        ensures layout { result.world.store.layout ≡ layout }
+        ensures weight { weight result.world ≡ 0 }
+        ensures stands { (base : Image) → Stands base base result.world new_world }
+    {
+        Run {
+            reader: LineReader::new(),
+            world: World::new(alloc, layout),
+            line: Bytes::new(alloc),
+            text: Bytes::new(alloc),
+        }
+    }
+
+    // Reads the step of the line of this number, or none at the end of the script.
+    fn read_step<S: Source>(
+        &mut self,
+        alloc: Global,
+        number: u64,
+        source: &mut S,
+    ) -> Result<Option<Step>, Status>
+        requires { number ≤ 16 }
+        ensures step { IfOk result (λ found. MatchOption found
+            (NoLine (prepend_known self.old.reader (S.left source.old)))
+            (λ step. IsPlayed (model_step step) × TakesStep number (prepend_known self.old.reader (S.left source.old))
+            (prepend_known self.new.reader (S.left source.new)) (model_step step))) }
+        ensures ends { IfErr result (λ status. EndsReading status number (prepend_known self.old.reader (S.left source.old))
+            (S.faults source.old) (S.faults source.new)) }
+        ensures world { self.new.world ≡ self.old.world }
+        ensures faults { S.faults source.old ≤ S.faults source.new }
+        ensures frugal { S.frugal source.new ≡ S.frugal source.old }
+    {
+        match self.reader.next_line(alloc, source, &mut self.line) {
+            Ok(Found::Line) => match Step::read(alloc, self.line.as_slice()) {
+                Ok(Some(step)) => Ok(Some(step)),
+                Ok(None) => Err(Status::NotBuilt { line: number }),
+                Err(_) => Err(Status::OutOfMemory),
+            },
+            Ok(Found::LongLine) => Err(Status::NotBuilt { line: number }),
+            Ok(Found::End) => Ok(None),
+            Err(fault) => Err(reading_status(fault)),
+        }
+    }
+
+    // Whether no line is left.
+    fn is_at_end<S: Source>(&mut self, alloc: Global, source: &mut S) -> Result<bool, Status>
+        ensures end { result ≡ Ok true → NoLine (prepend_known self.old.reader (S.left source.old)) }
+        ensures more { result ≡ Ok false → SomeLine (prepend_known self.old.reader (S.left source.old)) }
+        ensures ends { IfErr result (λ status. EndsReading status 17 (prepend_known self.old.reader (S.left source.old))
+            (S.faults source.old) (S.faults source.new)) }
+        ensures world { self.new.world ≡ self.old.world }
+        ensures faults { S.faults source.old ≤ S.faults source.new }
+        ensures frugal { S.frugal source.new ≡ S.frugal source.old }
+    {
+        match self.reader.next_line(alloc, source, &mut self.line) {
+            Ok(Found::Line) => Ok(false),
+            Ok(Found::LongLine) => Ok(false),
+            Ok(Found::End) => Ok(true),
+            Err(fault) => Err(reading_status(fault)),
+        }
+    }
+
+    // Does a step, and makes its answer the text.
+    fn do_step<D: Disk>(&mut self, alloc: Global, disk: &mut D, step: Step) -> Result<(), Status>
+        requires played { IsPlayed (model_step step) }
+        requires weight { weight self.old.world < 1024 }
+        requires disk { total_pages self.old.world.store.layout ≤ D.size disk.old }
+        ensures step { IsTrue D.tells → (base : Image) (world : ModelWorld) → Stands base (D.reads disk.old) self.old.world world
+            → OnOk result (IsDone base (D.reads disk.new) world (model_step step) self.new.text self.new.world) }
+        ensures weight { OnOk result (weight self.new.world ≤ weight self.old.world + 1) }
+        ensures reader { self.new.reader ≡ self.old.reader }
+        ensures layout { self.new.world.store.layout ≡ self.old.world.store.layout }
+        ensures size { D.size disk.new ≡ D.size disk.old }
+        ensures ends { IfErr result (λ status. EndsStep status (D.faults disk.old) (D.faults disk.new)) }
+        ensures faults { D.faults disk.old ≤ D.faults disk.new }
+        ensures frugal { D.frugal disk.new ≡ D.frugal disk.old }
+    {
+        let answer = match self.world.step(alloc, disk, step) {
+            Ok(answer) => answer,
+            Err(fault) => return Err(disk_status(fault)),
+        };
+        self.text.clear();
+        match answer.print(alloc, &mut self.text) {
+            Ok(()) => Ok(()),
+            Err(_) => Err(Status::OutOfMemory),
+        }
+    }
+
+    // Reads the line of this number and answers it. `false` at the end of the script.
+    fn answer_line<S: Source, K: Sink, D: Disk>(
+        &mut self,
+        alloc: Global,
+        number: u64,
+        source: &mut S,
+        sink: &mut K,
+        disk: &mut D,
+    ) -> Result<bool, Status>
+        requires number { number ≤ 16 }
+        requires weight { weight self.old.world < 1024 }
+        requires disk { total_pages self.old.world.store.layout ≤ D.size disk.old }
+        ensures going { IsTrue D.tells → (base : Image) (taken : Option (List ℕ)) (whole : Played)
+            → Going base (D.reads disk.old) self.old.world number (prepend_known self.old.reader (S.left source.old)) taken (K.taken sink.old) whole
+            → MatchResult result
+            (λ more. MatchBool more
+            (Going base (D.reads disk.new) self.new.world (number + 1) (prepend_known self.new.reader (S.left source.new)) taken (K.taken sink.new) whole)
+            (Ended Status.Done (K.frugal sink.old) base (D.reads disk.new) self.old.world.store.layout taken (K.taken sink.new) whole))
+            (λ status. Ended status (K.frugal sink.old) base (D.reads disk.new) self.old.world.store.layout taken (K.taken sink.new) whole) }
+        ensures weight { OnOk result (weight self.new.world ≤ weight self.old.world + 1) }
+        ensures layout { self.new.world.store.layout ≡ self.old.world.store.layout }
+        ensures size { D.size disk.new ≡ D.size disk.old }
+        ensures reason { IfErr result (λ status. HasReason status
+            (record { source = S.faults source.old; sink = K.faults sink.old; disk = D.faults disk.old })
+            (record { source = S.faults source.new; sink = K.faults sink.new; disk = D.faults disk.new })) }
+        ensures own { IfErr result IsRunning }
+        ensures later { Later
+            (record { source = S.faults source.old; sink = K.faults sink.old; disk = D.faults disk.old })
+            (record { source = S.faults source.new; sink = K.faults sink.new; disk = D.faults disk.new }) }
+        ensures frugal { K.frugal sink.new ≡ K.frugal sink.old }
+    {
+        match self.read_step(alloc, number, source)? {
+            Some(step) => {
+                self.do_step(alloc, disk, step)?;
+                print(sink, self.text.as_slice())?;
+                Ok(true)
+            }
+            None => Ok(false),
+        }
+    }
+}
+
+// The status of a line that wasn't read.
+fn reading_status(fault: LineFault) -> Status
+    ensures { result ≡ reading_ending fault }
+{
+    match fault {
+        LineFault::Source {
+            cause: IoFault::Failed,
+        } => Status::ReadFault,
+        LineFault::Source {
+            cause: IoFault::OutOfMemory,
+        } => Status::OutOfMemory,
+        LineFault::OutOfMemory => Status::OutOfMemory,
+    }
+}
+
+// The status of a call that the disk failed.
+fn disk_status(fault: IoFault) -> Status
+    ensures { result ≡ disk_ending fault }
+{
+    match fault {
+        IoFault::Failed => Status::DiskFault,
+        IoFault::OutOfMemory => Status::OutOfMemory,
+    }
+}
+
+// Runs a script over an empty store of this layout, up to its end.
+fn run_script<S: Source, K: Sink, D: Disk>(
+    alloc: Global,
+    layout: Layout,
+    source: &mut S,
+    sink: &mut K,
+    disk: &mut D,
+) -> Result<(), Status>
+    requires { total_pages layout ≤ D.size disk.old }
+    ensures ended { IsTrue D.tells → (script : List ℕ) → S.left source.old ≡ Some script
+        → MatchResult result
+        (λ _. Ended Status.Done (K.frugal sink.old) (D.reads disk.old) (D.reads disk.new) layout (K.taken sink.old) (K.taken sink.new) (play script))
+        (λ status. Ended status (K.frugal sink.old) (D.reads disk.old) (D.reads disk.new) layout (K.taken sink.old) (K.taken sink.new) (play script)) }
+    ensures reason { IfErr result (λ status. HasReason status
+        (record { source = S.faults source.old; sink = K.faults sink.old; disk = D.faults disk.old })
+        (record { source = S.faults source.new; sink = K.faults sink.new; disk = D.faults disk.new })) }
+    ensures own { IfErr result IsRunning }
+    ensures later { Later
+        (record { source = S.faults source.old; sink = K.faults sink.old; disk = D.faults disk.old })
+        (record { source = S.faults source.new; sink = K.faults sink.new; disk = D.faults disk.new }) }
+    ensures size { D.size disk.new ≡ D.size disk.old }
+    ensures frugal { K.frugal sink.new ≡ K.frugal sink.old }
+{
+    let mut run = Run::new(alloc, layout);
+    for number in 1..MAX_LINES + 1 {
+        if !run.answer_line(alloc, number, source, sink, disk)? {
+            return Ok(());
+        }
+    }
+    if run.is_at_end(alloc, source)? {
+        Ok(())
+    } else {
+        Err(Status::NotBuilt {
+            line: MAX_LINES + 1,
+        })
+    }
+}
+
+// Runs a script over an empty store of this layout, where the disk is large enough.
+fn fresh<S: Source, K: Sink, D: Disk>(
+    alloc: Global,
+    layout: Layout,
+    source: &mut S,
+    sink: &mut K,
+    disk: &mut D,
+) -> Status
+    ensures refused { D.size disk.old < total_pages layout
+        → result ≡ Status.Refused (TooSmall (total_pages layout) (D.size disk.old)) }
+    ensures untouched { D.size disk.old < total_pages layout → K.taken sink.new ≡ K.taken sink.old }
+    ensures accepted { total_pages layout ≤ D.size disk.old → IsAccepted result }
+    ensures ended { IsTrue D.tells → (script : List ℕ) → S.left source.old ≡ Some script
+        → Ended result (K.frugal sink.old) (D.reads disk.old) (D.reads disk.new) layout (K.taken sink.old) (K.taken sink.new) (play script) }
+    ensures reason { HasReason result
+        (record { source = S.faults source.old; sink = K.faults sink.old; disk = D.faults disk.old })
+        (record { source = S.faults source.new; sink = K.faults sink.new; disk = D.faults disk.new }) }
+    ensures later { Later
+        (record { source = S.faults source.old; sink = K.faults sink.old; disk = D.faults disk.old })
+        (record { source = S.faults source.new; sink = K.faults sink.new; disk = D.faults disk.new }) }
+    ensures size { D.size disk.new ≡ D.size disk.old }
+    ensures frugal { K.frugal sink.new ≡ K.frugal sink.old }
+{
+    let need = layout.total();
+    let have = disk.pages();
+    if have < need {
+        return Status::Refused {
+            why: StoreRefusal::TooSmall {
+                need: u64::from(need),
+                have: u64::from(have),
+            },
+        };
+    }
+    match run_script(alloc, layout, source, sink, disk) {
+        Ok(()) => Status::Done,
+        Err(status) => status,
+    }
+}
+
+// Runs what the words ask for, up to the closing line.
+fn run_words<S: Source, K: Sink, D: Disk>(
+    alloc: Global,
+    words: &[Word],
+    source: &mut S,
+    sink: &mut K,
+    disk: &mut D,
+) -> Status
+    ensures usage { (result ≡ Status.Usage) ↔ ((layout : LayoutParts) → IsFresh words.now layout → ⊥) }
+    ensures refused { (layout : LayoutParts) → IsFresh words.now layout → D.size disk.old < total_pages layout
+        → result ≡ Status.Refused (TooSmall (total_pages layout) (D.size disk.old)) }
+    ensures refused_only { (why : StoreRefusal) → result ≡ Status.Refused why
+        → (layout : LayoutParts) × IsFresh words.now layout × (D.size disk.old < total_pages layout)
+        × (why ≡ TooSmall (total_pages layout) (D.size disk.old)) }
+    ensures untouched { IsTurnedAway result → K.taken sink.new ≡ K.taken sink.old }
+    ensures ended { IsTrue D.tells → (layout : LayoutParts) → IsFresh words.now layout → (script : List ℕ) → S.left source.old ≡ Some script
+        → Ended result (K.frugal sink.old) (D.reads disk.old) (D.reads disk.new) layout (K.taken sink.old) (K.taken sink.new) (play script) }
+    ensures reason { HasReason result
+        (record { source = S.faults source.old; sink = K.faults sink.old; disk = D.faults disk.old })
+        (record { source = S.faults source.new; sink = K.faults sink.new; disk = D.faults disk.new }) }
+    ensures later { Later
+        (record { source = S.faults source.old; sink = K.faults sink.old; disk = D.faults disk.old })
+        (record { source = S.faults source.new; sink = K.faults sink.new; disk = D.faults disk.new }) }
+    ensures size { D.size disk.new ≡ D.size disk.old }
+    ensures frugal { K.frugal sink.new ≡ K.frugal sink.old }
+{
+    match Form::read(words) {
+        Some(form) => fresh(alloc, form.layout(), source, sink, disk),
+        None => Status::Usage,
+    }
+}
+
+// Writes the closing line, where the sink takes it.
+fn close<K: Sink>(sink: &mut K, status: &Status)
+    ensures closed { Closed status.now (K.frugal sink.old) (K.faults sink.old) (K.faults sink.new) (K.taken sink.old) (K.taken sink.new) }
+    ensures faults { K.faults sink.old ≤ K.faults sink.new }
+    ensures frugal { K.frugal sink.new ≡ K.frugal sink.old }
+{
+    let _ = print(sink, status.closing().as_slice());
+}
+
+/// Runs a command line: its words, the script that a source gives, the sink of its answers and the disk of its store.
+/// It answers how the run ended, and the disk.
+///
+/// The one form of words is `fresh FILE UNITS ROOM`, which formats a store of UNITS times 1024 data pages and ROOM pages
+/// for the states of a half, and answers a script line by line. FILE isn't looked at: the caller has opened the disk.
+/// After a status other than `Done` one closing line is written where the sink takes it.
+pub fn run_alone<S: Source, K: Sink, D: Disk>(
+    alloc: Global,
+    words: &[Word],
+    source: &mut S,
+    sink: &mut K,
+    mut disk: D,
+) -> (Status, D)
+    // Usage exactly where the words are no form.
+    ensures usage { (result.0 ≡ Status.Usage) ↔ ((layout : LayoutParts) → IsFresh words.now layout → ⊥) }
+
+    // Refused exactly where the layout exceeds the disk.
+    ensures refused { (layout : LayoutParts) → IsFresh words.now layout → D.size disk < total_pages layout
+        → result.0 ≡ Status.Refused (TooSmall (total_pages layout) (D.size disk)) }
+    ensures refused_only { (why : StoreRefusal) → result.0 ≡ Status.Refused why
+        → (layout : LayoutParts) × IsFresh words.now layout × (D.size disk < total_pages layout)
+        × (why ≡ TooSmall (total_pages layout) (D.size disk)) }
+
+    // A fault only where the count of that end rose.
+    ensures reason { HasReason result.0
+        (record { source = S.faults source.old; sink = K.faults sink.old; disk = D.faults disk })
+        (record { source = S.faults source.new; sink = K.faults sink.new; disk = D.faults result.1 }) }
+
+    // What the sink took and what the data pages have, over a known script: the play's text up to where the run ended,
+    // and then the closing line.
+    ensures text { IsTrue D.tells → (layout : LayoutParts) → IsFresh words.now layout → (script : List ℕ) → S.left source.old ≡ Some script
+        → (taken : Option (List ℕ))
+        × Ended result.0 (K.frugal sink.old) (D.reads disk) (D.reads result.1) layout (K.taken sink.old) taken (play script)
+        × Closed result.0 (K.frugal sink.old) (K.faults sink.old) (K.faults sink.new) taken (K.taken sink.new) }
+
+    // Where nothing was run, the closing line alone.
+    ensures turned_away { IsTurnedAway result.0
+        → Closed result.0 (K.frugal sink.old) (K.faults sink.old) (K.faults sink.new) (K.taken sink.old) (K.taken sink.new) }
+
+    ensures later { Later
+        (record { source = S.faults source.old; sink = K.faults sink.old; disk = D.faults disk })
+        (record { source = S.faults source.new; sink = K.faults sink.new; disk = D.faults result.1 }) }
+    ensures size { D.size result.1 ≡ D.size disk }
+    ensures frugal { K.frugal sink.new ≡ K.frugal sink.old }
+{
+    let status = run_words(alloc, words, source, sink, &mut disk);
+    close(sink, &status);
+    (status, disk)
+}

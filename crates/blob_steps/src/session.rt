@@ -1,0 +1,266 @@
+// Sessions and their transactions.
+
+ghost use Rattle.std.specs.Prelude.{◌≡◌, ℕ, ◌<◌, ◌≤◌, length, Bool, option_copied, option_map, IfOk, IfErr, OnErr, IsTrue};
+ghost use Rattle.std.specs.FinMap as map;
+ghost use Rattle.store_model.specs.Store.{Store, number_at};
+ghost use Rattle.store_model.specs.Transaction.{new_transaction, is_touched, touched_count, content_of};
+ghost use Rattle.store_model.specs.Turn.{is_one_too_many, get_turn, put_turn, turn};
+ghost use Rattle.store_model.specs.Turn as model;
+
+use crate::answer::AnswerLine;
+use crate::key_map::KeyMap;
+use blob_base::{Bytes, Key, OutOfMemory};
+use std::alloc::Global;
+use std::marker::Model;
+use std::mem;
+
+// How many keys a transaction may touch.
+const MAX_KEYS: usize = 16;
+
+/// A change of a key: its new content, of at most 4095 bytes.
+#[derive(Drop)]
+pub(crate) struct Change {
+    pub(crate) content: Bytes,
+}
+
+impl Model for Change {
+    ghost use Rattle.std.specs.Prelude.{◌≤◌, length};
+    ghost use Rattle.store_model.specs.Transaction as tr;
+
+    ghost Value = { tr.Change };
+
+    ghost view = { λ change. tr.Put change.content };
+
+    ghost invariant = { λ change. length change.content ≤ 4095 };
+}
+
+/// What a transaction has read and changed.
+#[derive(Drop)]
+pub(crate) struct Transaction {
+    reads: KeyMap<Option<u64>>,
+    changes: KeyMap<Change>,
+}
+
+impl Model for Transaction {
+    ghost use Rattle.store_model.specs.Transaction as tr;
+    ghost use Rattle.blob_steps.specs.Coding.{transaction_code};
+
+    ghost Value = { tr.Transaction };
+
+    ghost coded = { transaction_code };
+
+    ghost view = { λ t. record { reads = t.reads; changes = t.changes } };
+}
+
+/// How a read of a key went.
+#[derive(Clone, Copy, Debug, PartialEq, Eq)]
+pub(crate) enum Reading {
+    /// The key is untouched, and would be one too many.
+    TooMany,
+    /// The key was read before with another number.
+    Stale,
+    /// The transaction has put the key.
+    Own,
+    /// What the store has is shown, and its number is recorded.
+    Stored,
+}
+
+/// What a get is answered.
+#[derive(Drop)]
+pub(crate) enum Got {
+    /// This line.
+    Line { line: AnswerLine },
+    /// What the store has under the key.
+    Stored,
+}
+
+impl Transaction {
+    ghost use Rattle.blob_steps.specs.Sessions.{ReadGives, got_line};
+    ghost use Rattle.blob_steps.specs.Answers.{model_line};
+
+    /// A transaction that has read and changed nothing.
+    pub(crate) fn new(alloc: Global) -> Transaction
+        ensures { result ≡ new_transaction }
+    {
+        Transaction {
+            reads: KeyMap::new(alloc),
+            changes: KeyMap::new(alloc),
+        }
+    }
+
+    fn is_touched(&self, key: &Key) -> bool
+        ensures { result ≡ is_touched self.now key.now }
+    {
+        self.reads.contains_key(key) || self.changes.contains_key(key)
+    }
+
+    fn is_one_too_many(&self, key: &Key) -> bool
+        ensures { result ≡ is_one_too_many self.now key.now }
+    {
+        !self.is_touched(key)
+            && self.reads.len() + self.changes.count_unread(&self.reads) >= MAX_KEYS
+    }
+
+    /// Records the read of a key whose number now is this one.
+    fn read(&mut self, key: &Key, now: Option<u64>) -> Result<Reading, OutOfMemory>
+        ensures reading { IfOk result (λ reading. ReadGives self.old key.now now reading self.new) }
+        ensures changes { self.new.changes ≡ self.old.changes }
+        ensures err { OnErr result (self.new ≡ self.old) }
+    {
+        if self.is_one_too_many(key) {
+            return Ok(Reading::TooMany);
+        }
+        if self.changes.contains_key(key) {
+            return Ok(Reading::Own);
+        }
+        match self.reads.get(key) {
+            Some(seen) => Ok(if *seen == now {
+                Reading::Stored
+            } else {
+                Reading::Stale
+            }),
+            None => {
+                self.reads.insert(key.copy(), now)?;
+                Ok(Reading::Stored)
+            }
+        }
+    }
+
+    // A get of a key whose number now is this one.
+    fn get(&mut self, alloc: Global, key: &Key, now: Option<u64>) -> Result<Got, OutOfMemory>
+        ensures turn { IfOk result (λ got. (store : Store) → number_at store key.now ≡ now
+            → get_turn store self.old key.now ≡ record { line = got_line store key.now got; session = model.Open self.new }) }
+        ensures changes { self.new.changes ≡ self.old.changes }
+    {
+        match self.read(key, now)? {
+            Reading::TooMany => Ok(Got::Line {
+                line: AnswerLine::TooMany { keys: 17 },
+            }),
+            Reading::Stale => Ok(Got::Line {
+                line: AnswerLine::Stale { now },
+            }),
+            Reading::Own => match self.own(key) {
+                Some(content) => {
+                    let content = Bytes::of(alloc, content.as_slice())?;
+                    Ok(Got::Line {
+                        line: AnswerLine::Value { content },
+                    })
+                }
+                None => Ok(Got::Stored),
+            },
+            Reading::Stored => Ok(Got::Stored),
+        }
+    }
+
+    /// The content that it puts under a key.
+    fn own(&self, key: &Key) -> Option<&Bytes>
+        ensures { option_copied result ≡ option_map content_of (map.get self.now.changes key.now) }
+    {
+        match self.changes.get(key) {
+            Some(change) => Some(&change.content),
+            None => None,
+        }
+    }
+
+    /// Puts a content under a key.
+    fn put(&mut self, key: Key, content: Bytes) -> Result<AnswerLine, OutOfMemory>
+        requires { length content ≤ 4095 }
+        ensures turn { IfOk result (λ line. put_turn self.old key content
+            ≡ record { line = model_line line; session = model.Open self.new }) }
+        ensures err { OnErr result (self.new ≡ self.old) }
+    {
+        if self.is_one_too_many(&key) {
+            return Ok(AnswerLine::TooMany { keys: 17 });
+        }
+        self.changes.insert(key, Change { content })?;
+        Ok(AnswerLine::Put)
+    }
+
+    /// Its changes.
+    pub(crate) fn into_changes(self) -> KeyMap<Change>
+        ensures { result ≡ self.changes }
+    {
+        self.changes
+    }
+}
+
+/// A session: it has no transaction, an open one, or one whose request is queued.
+#[derive(Drop)]
+pub(crate) enum Session {
+    Free,
+    Open { transaction: Transaction },
+    Waiting { transaction: Transaction },
+}
+
+impl Session {
+    ghost use Rattle.blob_steps.specs.Sessions.{model_session, got_line, change_count};
+    ghost use Rattle.blob_steps.specs.Answers.{model_line};
+
+    pub(crate) fn begin(&mut self, alloc: Global) -> AnswerLine
+        ensures { (store : Store) → turn store (model_session self.old) model.Begin
+            ≡ record { line = model_line result; session = model_session self.new } }
+    {
+        match self {
+            Session::Free => {
+                *self = Session::Open {
+                    transaction: Transaction::new(alloc),
+                };
+                AnswerLine::Begun
+            }
+            Session::Open { .. } => AnswerLine::Already,
+            Session::Waiting { .. } => AnswerLine::Busy,
+        }
+    }
+
+    pub(crate) fn commit(&mut self) -> AnswerLine
+        ensures { (store : Store) → turn store (model_session self.old) model.Commit
+            ≡ record { line = model_line result; session = model_session self.new } }
+    {
+        match mem::replace(self, Session::Free) {
+            Session::Free => AnswerLine::NoTransaction,
+            Session::Open { transaction } => {
+                *self = Session::Waiting { transaction };
+                AnswerLine::Queued
+            }
+            Session::Waiting { transaction } => {
+                *self = Session::Waiting { transaction };
+                AnswerLine::Busy
+            }
+        }
+    }
+
+    pub(crate) fn put(&mut self, key: Key, content: Bytes) -> Result<AnswerLine, OutOfMemory>
+        requires { length content ≤ 4095 }
+        ensures { IfOk result (λ line. (store : Store) → turn store (model_session self.old) (model.Put key content)
+            ≡ record { line = model_line line; session = model_session self.new }) }
+    {
+        match self {
+            Session::Free => Ok(AnswerLine::NoTransaction),
+            Session::Open { transaction } => transaction.put(key, content),
+            Session::Waiting { .. } => Ok(AnswerLine::Busy),
+        }
+    }
+
+    /// A get of a key whose number in the store is this one.
+    pub(crate) fn get(
+        &mut self,
+        alloc: Global,
+        key: &Key,
+        now: Option<u64>,
+    ) -> Result<Got, OutOfMemory>
+        ensures turn { IfOk result (λ got. (store : Store) → number_at store key.now ≡ now
+            → turn store (model_session self.old) (model.Get key.now)
+            ≡ record { line = got_line store key.now got; session = model_session self.new }) }
+        ensures changes { change_count (model_session self.new) ≡ change_count (model_session self.old) }
+    {
+        match self {
+            Session::Free => Ok(Got::Line {
+                line: AnswerLine::NoTransaction,
+            }),
+            Session::Open { transaction } => transaction.get(alloc, key, now),
+            Session::Waiting { .. } => Ok(Got::Line {
+                line: AnswerLine::Busy,
+            }),
+        }
+    }
+}

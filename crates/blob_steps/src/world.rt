@@ -1,0 +1,149 @@
+// The world of a run: its store and its session.
+
+ghost use Rattle.std.specs.Prelude.{◌≡◌, ◌^◌, ℕ, ◌+◌, ◌*◌, ◌<◌, ◌≤◌, IsTrue, IfOk, OnOk, IsErrOf};
+ghost use Rattle.blob_base.specs.Faults.{Rose};
+ghost use Rattle.blob_base.specs.declared.faults.IoFault.TheVariants.{Failed};
+ghost use Rattle.store_model.specs.Disk.{Image};
+ghost use Rattle.store_model.specs.Layout.{total_pages};
+ghost use Rattle.store_model.specs.Group.{World as ModelWorld, new_world};
+ghost use Rattle.store_model.specs.Turn.{Get};
+
+use crate::answer::{Answer, AnswerLine};
+use crate::script::{Action, Step};
+use crate::session::{Got, Session};
+use crate::store::Store;
+use blob_base::{IoFault, Key};
+use disk_model::{Disk, Layout};
+use std::alloc::Global;
+use std::mem;
+
+/// The store of a run, and its one session.
+#[derive(Drop)]
+pub(crate) struct World {
+    pub(crate) store: Store,
+    pub(crate) session: Session,
+}
+
+impl World {
+    ghost use Rattle.blob_steps.specs.Answers.{model_line, text_of};
+    ghost use Rattle.blob_steps.specs.Words.{model_action, model_step};
+    ghost use Rattle.blob_steps.specs.Steps.{Stands, IsTurn, IsLead, IsDone, IsPlayed, IsSmallAction, weight};
+
+    /// An empty store, and no transaction.
+    pub(crate) fn new(alloc: Global, layout: Layout) -> World
+        ensures layout { result.store.layout ≡ layout }
+        ensures weight { weight result ≡ 0 }
+        ensures stands { (base : Image) → Stands base base result new_world }
+    {
+        World {
+            store: Store::new(alloc, layout),
+            session: Session::Free,
+        }
+    }
+
+    /// A step. After an `Err` nothing is said of the world.
+    pub(crate) fn step<D: Disk>(
+        &mut self,
+        alloc: Global,
+        disk: &mut D,
+        step: Step,
+    ) -> Result<Answer, IoFault>
+        requires played { IsPlayed (model_step step) }
+        requires weight { weight self.old < 1024 }
+        requires disk { total_pages self.old.store.layout ≤ D.size disk.old }
+        ensures step { IsTrue D.tells → (base : Image) (world : ModelWorld) → Stands base (D.reads disk.old) self.old world
+            → IfOk result (λ answer. IsDone base (D.reads disk.new) world (model_step step) (text_of answer) self.new) }
+        ensures weight { OnOk result (weight self.new ≤ weight self.old + 1) }
+        ensures layout { self.new.store.layout ≡ self.old.store.layout }
+        ensures size { D.size disk.new ≡ D.size disk.old }
+        ensures faults { D.faults disk.old ≤ D.faults disk.new }
+        ensures failed { IsErrOf result Failed → Rose (D.faults disk.old) (D.faults disk.new) }
+        ensures frugal { D.frugal disk.new ≡ D.frugal disk.old }
+    {
+        match step {
+            Step::Session { session, action } => {
+                let line = self.turn(alloc, disk, action)?;
+                Ok(Answer::Session { session, line })
+            }
+            Step::Lead => self.lead(disk),
+        }
+    }
+
+    // A turn of the session. After an `Err` nothing is said of the world.
+    fn turn<D: Disk>(
+        &mut self,
+        alloc: Global,
+        disk: &mut D,
+        action: Action,
+    ) -> Result<AnswerLine, IoFault>
+        requires small { IsSmallAction (model_action action) }
+        requires disk { total_pages self.old.store.layout ≤ D.size disk.old }
+        ensures turn { IsTrue D.tells → (base : Image) (world : ModelWorld) → Stands base (D.reads disk.old) self.old world
+            → IfOk result (λ line. IsTurn base (D.reads disk.new) world (model_action action) (model_line line) self.new) }
+        ensures weight { OnOk result (weight self.new ≤ weight self.old + 1) }
+        ensures layout { self.new.store.layout ≡ self.old.store.layout }
+        ensures size { D.size disk.new ≡ D.size disk.old }
+        ensures faults { D.faults disk.old ≤ D.faults disk.new }
+        ensures failed { IsErrOf result Failed → Rose (D.faults disk.old) (D.faults disk.new) }
+        ensures frugal { D.frugal disk.new ≡ D.frugal disk.old }
+    {
+        match action {
+            Action::Begin => Ok(self.session.begin(alloc)),
+            Action::Commit => Ok(self.session.commit()),
+            Action::Get { key } => self.get(alloc, disk, &key),
+            Action::Put { key, content } => Ok(self.session.put(key, content)?),
+        }
+    }
+
+    // A get of the session.
+    fn get<D: Disk>(
+        &mut self,
+        alloc: Global,
+        disk: &mut D,
+        key: &Key,
+    ) -> Result<AnswerLine, IoFault>
+        requires disk { total_pages self.old.store.layout ≤ D.size disk.old }
+        ensures turn { IsTrue D.tells → (base : Image) (world : ModelWorld) → Stands base (D.reads disk.old) self.old world
+            → IfOk result (λ line. IsTurn base (D.reads disk.new) world (Get key.now) (model_line line) self.new) }
+        ensures weight { OnOk result (weight self.new ≤ weight self.old + 1) }
+        ensures layout { self.new.store.layout ≡ self.old.store.layout }
+        ensures size { D.size disk.new ≡ D.size disk.old }
+        ensures faults { D.faults disk.old ≤ D.faults disk.new }
+        ensures failed { IsErrOf result Failed → Rose (D.faults disk.old) (D.faults disk.new) }
+        ensures frugal { D.frugal disk.new ≡ D.frugal disk.old }
+    {
+        let now = self.store.number(key);
+        match self.session.get(alloc, key, now)? {
+            Got::Line { line } => Ok(line),
+            Got::Stored => self.store.show(alloc, disk, key),
+        }
+    }
+
+    // A lead. After an `Err` nothing is said of the world.
+    fn lead<D: Disk>(&mut self, disk: &mut D) -> Result<Answer, IoFault>
+        requires weight { weight self.old < 1024 }
+        requires disk { total_pages self.old.store.layout ≤ D.size disk.old }
+        ensures lead { IsTrue D.tells → (base : Image) (world : ModelWorld) → Stands base (D.reads disk.old) self.old world
+            → IfOk result (λ answer. IsLead base (D.reads disk.new) world answer self.new) }
+        ensures weight { OnOk result (weight self.new ≤ weight self.old + 1) }
+        ensures layout { self.new.store.layout ≡ self.old.store.layout }
+        ensures size { D.size disk.new ≡ D.size disk.old }
+        ensures faults { D.faults disk.old ≤ D.faults disk.new }
+        ensures failed { IsErrOf result Failed → Rose (D.faults disk.old) (D.faults disk.new) }
+        ensures frugal { D.frugal disk.new ≡ D.frugal disk.old }
+    {
+        match mem::replace(&mut self.session, Session::Free) {
+            Session::Waiting { transaction } => {
+                let number = self.store.commit(disk, transaction.into_changes())?;
+                Ok(Answer::Session {
+                    session: 0,
+                    line: AnswerLine::Committed { number },
+                })
+            }
+            session => {
+                self.session = session;
+                Ok(Answer::Idle)
+            }
+        }
+    }
+}

@@ -1,0 +1,5 @@
+pub mod Calls
+pub mod Memory
+pub use Rattle.blob_base.specs.Faults
+pub use Rattle.store_model.specs.Disk
+pub use Rattle.store_model.specs.Layout

@@ -1,0 +1,2 @@
+pub mod Memory
+pub use Rattle.blob_base.specs.Faults

@@ -1,0 +1,8 @@
+use Rattle.std.proofs.Common.{◌≡◌}
+use Rattle.std.specs.Prelude.{fold}
+use Rattle.sha2.specs.Sha256.{compress}
+use Rattle.store_model.specs.Hash.{blocks}
+use Rattle.sha_resume.proofs.fold_blocks.Given as goal
+
+abbrev pub invariant-folded : goal.invariant-folded
+invariant-folded l = l.state ≡ fold compress l.fn.state (blocks l.i l.bytes)

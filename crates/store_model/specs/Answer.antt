@@ -1,0 +1,53 @@
+-- The answers to a script's lines, and how they are printed.
+use Rattle.std.specs.Prelude.{ℕ, List, [], ◌∷◌, ◌++◌, length, Option, Some, None, codes, decimal}
+use Rattle.hex.specs.Hex.{encode_lower}
+
+-- what a session's line is answered
+pub data AnswerLine : Type 0 where
+  Begun : AnswerLine
+  Value : List ℕ → AnswerLine
+  Put : AnswerLine
+  Queued : AnswerLine
+  Busy : AnswerLine
+  Already : AnswerLine
+  NoTransaction : AnswerLine
+  TooMany : ℕ → AnswerLine
+  Stale : Option ℕ → AnswerLine
+  Absent : AnswerLine
+  Committed : ℕ → AnswerLine
+
+-- the end of a line
+abbrev pub line_end : List ℕ
+line_end = 10 ∷ []
+
+-- bytes as two lower case hexadecimal digits each, and `-` for none
+abbrev pub hex_text : List ℕ → List ℕ
+hex_text [] = codes "-"
+hex_text (byte ∷ bytes) = encode_lower (byte ∷ bytes)
+
+-- a number, and `none` for a missing one
+abbrev pub number_text : Option ℕ → List ℕ
+number_text (Some n) = decimal n
+number_text None = codes "none"
+
+-- what stands behind the session
+abbrev pub line_text : AnswerLine → List ℕ
+line_text Begun = codes "begun"
+line_text (Value content) = codes "value " ++ decimal (length content) ++ codes " " ++ hex_text content
+line_text Put = codes "put"
+line_text Queued = codes "queued"
+line_text Busy = codes "busy"
+line_text Already = codes "already"
+line_text NoTransaction = codes "no-transaction"
+line_text (TooMany n) = codes "too-many " ++ decimal n
+line_text (Stale now) = codes "stale " ++ number_text now
+line_text Absent = codes "absent"
+line_text (Committed number) = codes "committed " ++ decimal number
+
+-- a session's answer, as a line
+abbrev pub answer_text : ℕ → AnswerLine → List ℕ
+answer_text session line = decimal session ++ codes " " ++ line_text line ++ line_end
+
+-- the answer to a lead of an empty queue
+abbrev pub idle_text : List ℕ
+idle_text = codes "idle" ++ line_end

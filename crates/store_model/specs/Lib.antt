@@ -1,0 +1,14 @@
+pub mod Hash
+pub mod Shape
+pub mod Key
+pub mod Store
+pub mod Transaction
+pub mod Answer
+pub mod Turn
+pub mod Group
+pub mod Script
+pub mod Play
+pub mod Layout
+pub mod Disk
+pub mod Form
+pub mod Closing

@@ -1,0 +1,92 @@
+-- Scripts: the lines of a text, and the steps that they ask for.
+use Rattle.std.specs.Prelude.{ℕ, ◌+◌, ◌&&◌, ◌==◌, nat_le, List, [], ◌∷◌, length, take, drop, Option, Some, None, Result, Ok, Err, option_map, option_and_then, codes, bytes_eq, if◌then◌else◌}
+use Rattle.std.specs.List.{slice_split}
+use Rattle.hex.specs.Hex.{decode_of}
+use Rattle.hex.specs.declared.error.FromHexError.{FromHexError}
+use Rattle.store_model.specs.Key.{key_of}
+use Rattle.store_model.specs.Turn.{Action, Begin, Get, Put, Commit}
+
+-- a line that ended, and then the others; an empty rest after the last line end is no line
+abbrev pub without_empty_rest : List (List ℕ) → List (List ℕ)
+without_empty_rest [] = []
+without_empty_rest ([] ∷ []) = []
+without_empty_rest ((byte ∷ bytes) ∷ []) = (byte ∷ bytes) ∷ []
+without_empty_rest (line ∷ next ∷ lines) = line ∷ without_empty_rest (next ∷ lines)
+
+-- the lines of a script, without their ends
+abbrev pub lines_of : List ℕ → List (List ℕ)
+lines_of script = without_empty_rest (slice_split (λ byte. byte == 10) script)
+
+-- what a line asks for: an action of a session, or a lead
+pub data Step : Type 0 where
+  Session : ℕ → Action → Step
+  Lead : Step
+
+-- where decoding succeeded, with 1 to 4095 bytes
+abbrev pub small_content : Result (List ℕ) FromHexError → Option (List ℕ)
+small_content (Ok bytes) = if nat_le 1 (length bytes) && nat_le (length bytes) 4095 then Some bytes else None
+small_content (Err _) = None
+
+-- the content that a word spells: `x:` and two hexadecimal digits of either case for each byte
+abbrev pub spelled_content : List ℕ → Option (List ℕ)
+spelled_content word = if bytes_eq (take 2 word) (codes "x:") then small_content (decode_of (drop 2 word)) else None
+
+-- the action of the words behind the session
+abbrev pub action_of : List (List ℕ) → Option Action
+action_of [] = None
+action_of (verb ∷ []) =
+    if bytes_eq verb (codes "begin") then Some Begin
+    else if bytes_eq verb (codes "commit") then Some Commit
+    else None
+action_of (verb ∷ key ∷ []) = if bytes_eq verb (codes "get") then option_map Get (key_of key) else None
+action_of (verb ∷ key ∷ content ∷ []) =
+    if bytes_eq verb (codes "put") then option_and_then (λ k. option_map (λ c. Put k c) (spelled_content content)) (key_of key)
+    else None
+action_of (verb ∷ key ∷ content ∷ more ∷ words) = None
+
+-- the step of a line's words
+abbrev pub step_of_words : List (List ℕ) → Option Step
+step_of_words [] = None
+step_of_words (word ∷ []) = if bytes_eq word (codes "lead") then Some Lead else None
+step_of_words (session ∷ word ∷ words) =
+    if bytes_eq session (codes "0") then option_map (λ action. Session 0 action) (action_of (word ∷ words)) else None
+
+-- how many bytes a line may have without its end
+abbrev pub most_line_bytes : ℕ
+most_line_bytes = 65536
+
+-- how many lines a script may have
+abbrev pub most_lines : ℕ
+most_lines = 16
+
+-- the step that a line asks for; its words are parted by one blank each
+abbrev pub step_of : List ℕ → Option Step
+step_of line = if nat_le (length line) most_line_bytes then step_of_words (slice_split (λ byte. byte == 32) line) else None
+
+-- the step that the line of this number asks for; lines are numbered from 1
+abbrev pub step_at : ℕ → List ℕ → Option Step
+step_at number line = if nat_le number most_lines then step_of line else None
+
+-- a script ends at the end of the input, or at the first line that is none of those that are built
+pub data End : Type 0 where
+  AtInputEnd : End
+  AtLine : ℕ → End
+
+-- the steps up to the end, each with its line's number
+pub record Script : Type 0 where
+  pub steps : List (ℕ × Step)
+  pub end : End
+
+-- with the steps of the lines behind it
+abbrev pub step_then : ℕ → Option Step → Script → Script
+step_then number None rest = record { steps = []; end = AtLine number }
+step_then number (Some step) rest = record { steps = (number, step) ∷ rest.steps; end = rest.end }
+
+-- the steps of lines, the first of which has this number
+abbrev pub steps_from : ℕ → List (List ℕ) → Script
+steps_from number [] = record { steps = []; end = AtInputEnd }
+steps_from number (line ∷ lines) = step_then number (step_at number line) (steps_from (number + 1) lines)
+
+-- the steps of a whole script
+abbrev pub steps_of : List ℕ → Script
+steps_of script = steps_from 1 (lines_of script)

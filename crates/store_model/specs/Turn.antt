@@ -1,0 +1,103 @@
+-- One turn of a session: the answer to an action over the store, and the session after it.
+use Rattle.std.specs.Prelude.{ℕ, Bool, true, false, not, ◌&&◌, nat_le, ◌==◌, List, Option, Some, None, if◌then◌else◌}
+use Rattle.std.specs.FinMap.{get, insert, contains_key}
+use Rattle.store_model.specs.Store.{Store, number_at, content_at}
+use Rattle.store_model.specs.Transaction as tr
+use Rattle.store_model.specs.Transaction.{Transaction, Change, new_transaction, is_touched, touched_count, content_of}
+use Rattle.store_model.specs.Answer as answer
+use Rattle.store_model.specs.Answer.{AnswerLine}
+
+-- A session has no transaction, an open one, or one whose request is queued.
+pub data Session : Type 0 where
+  Free : Session
+  Open : Transaction → Session
+  Waiting : Transaction → Session
+
+-- what a session's line asks for
+pub data Action : Type 0 where
+  Begin : Action
+  Get : List ℕ → Action
+  Put : List ℕ → List ℕ → Action
+  Commit : Action
+
+-- an answer, and the session after it
+pub record Turned : Type 0 where
+  pub line : AnswerLine
+  pub session : Session
+
+-- how many keys a transaction may touch
+abbrev pub most_keys : ℕ
+most_keys = 16
+
+-- the key is untouched, and would be one too many
+abbrev pub is_one_too_many : Transaction → List ℕ → Bool
+is_one_too_many transaction key = not (is_touched transaction key) && nat_le most_keys (touched_count transaction)
+
+-- whether two numbers, either of them perhaps missing, are the same
+abbrev pub same_number : Option ℕ → Option ℕ → Bool
+same_number None None = true
+same_number (Some m) (Some n) = m == n
+same_number None (Some n) = false
+same_number (Some m) None = false
+
+-- whether the number read, where there is one, isn't the number now
+abbrev pub has_moved : Option (Option ℕ) → Option ℕ → Bool
+has_moved None now = false
+has_moved (Some seen) now = not (same_number seen now)
+
+-- Where the key's number now is this one: the key was read with another, and isn't put.
+abbrev pub is_stale : Option ℕ → Transaction → List ℕ → Bool
+is_stale now transaction key = not (contains_key transaction.changes key) && has_moved (get transaction.reads key) now
+
+-- the content under a change, or else the store's
+abbrev pub changed_content : Option Change → Option (List ℕ) → Option (List ℕ)
+changed_content None stored = stored
+changed_content (Some change) stored = Some (content_of change)
+
+-- the transaction's value of a key
+abbrev pub value_of : Store → Transaction → List ℕ → Option (List ℕ)
+value_of store transaction key = changed_content (get transaction.changes key) (content_at store key)
+
+-- The transaction with this number of an untouched key recorded as read; a recorded read is never changed.
+abbrev pub with_read : Option ℕ → Transaction → List ℕ → Transaction
+with_read now transaction key =
+    if is_touched transaction key then transaction
+    else record { reads = insert transaction.reads key now; changes = transaction.changes }
+
+-- a content as an answer
+abbrev pub shown : Option (List ℕ) → AnswerLine
+shown (Some content) = answer.Value content
+shown None = answer.Absent
+
+-- a get in an open transaction
+abbrev pub get_turn : Store → Transaction → List ℕ → Turned
+get_turn store transaction key =
+    if is_one_too_many transaction key then record { line = answer.TooMany 17; session = Open transaction }
+    else if is_stale (number_at store key) transaction key then record { line = answer.Stale (number_at store key); session = Open transaction }
+    else record { line = shown (value_of store transaction key); session = Open (with_read (number_at store key) transaction key) }
+
+-- a put in an open transaction
+abbrev pub put_turn : Transaction → List ℕ → List ℕ → Turned
+put_turn transaction key content =
+    if is_one_too_many transaction key then record { line = answer.TooMany 17; session = Open transaction }
+    else record { line = answer.Put; session = Open (record { reads = transaction.reads; changes = insert transaction.changes key (tr.Put content) }) }
+
+-- an action in an open transaction
+abbrev pub open_turn : Store → Transaction → Action → Turned
+open_turn store transaction Begin = record { line = answer.Already; session = Open transaction }
+open_turn store transaction (Get key) = get_turn store transaction key
+open_turn store transaction (Put key content) = put_turn transaction key content
+open_turn store transaction Commit = record { line = answer.Queued; session = Waiting transaction }
+
+-- an action without a transaction
+abbrev pub free_turn : Action → Turned
+free_turn Begin = record { line = answer.Begun; session = Open new_transaction }
+free_turn (Get key) = record { line = answer.NoTransaction; session = Free }
+free_turn (Put key content) = record { line = answer.NoTransaction; session = Free }
+free_turn Commit = record { line = answer.NoTransaction; session = Free }
+
+-- the answer to an action, and the session after it
+abbrev pub turn : Store → Session → Action → Turned
+turn store Free action = free_turn action
+turn store (Open transaction) action = open_turn store transaction action
+turn store (Waiting transaction) action = record { line = answer.Busy; session = Waiting transaction }

@@ -1,0 +1,2 @@
+//! The definitions of what Warnoelt promises, in `specs/`. There is no code here.
+#![tactic(auto)]

@@ -1,0 +1,17 @@
+//! Tests of the crates of words, numbers, lists, ends and disks, over their public calls.
+#![tactic(auto)]
+
+#[cfg(test)]
+mod disks;
+#[cfg(test)]
+mod ends;
+#[cfg(test)]
+mod file;
+#[cfg(test)]
+mod hash;
+#[cfg(test)]
+mod keys;
+#[cfg(test)]
+mod lists;
+#[cfg(test)]
+mod shape;

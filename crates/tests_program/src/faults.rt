@@ -1,0 +1,92 @@
+// Faults of the source, the sink and the disk, and want of memory.
+
+use crate::trial::{FIRST, FIRST_OUTPUT, Trial};
+use blob_steps::Status;
+
+// Two puts, and a get: the disk takes two writes, a sync and a read.
+const TWO_PUTS: &[u8] =
+    b"0 begin\n0 put a/b x:01\n0 put a/a x:02\n0 commit\nlead\n0 begin\n0 get a/b\n";
+
+#[test]
+fn reads_that_fail(rt: HostRuntime) {
+    for (failing, output) in [
+        (1, b"read fault\n".as_slice()),
+        (2, b"0 begun\nread fault\n".as_slice()),
+        (4, b"0 begun\n0 put\nread fault\n".as_slice()),
+        (5, b"0 begun\n0 put\n0 queued\nread fault\n".as_slice()),
+    ] {
+        let trial = Trial {
+            piece: 8,
+            failing_reads: &[failing],
+            ..Trial::of(b"0 begin\n0 put a/b x:01\n0 commit\n")
+        };
+        trial.expect(&rt, output, Status::ReadFault);
+    }
+}
+
+#[test]
+fn writes_that_fail(rt: HostRuntime) {
+    for (failing, output) in [
+        (1, b"write fault\n".as_slice()),
+        (2, b"0 begun\nwrite fault\n".as_slice()),
+        (3, b"0 begun\n0 put\nwrite fault\n".as_slice()),
+    ] {
+        let trial = Trial {
+            failing_writes: &[failing],
+            ..Trial::of(FIRST)
+        };
+        trial.expect(&rt, output, Status::WriteFault);
+    }
+}
+
+#[test]
+fn a_sink_that_takes_nothing(rt: HostRuntime) {
+    let mut failing = [0; 100];
+    for i in 0..100 {
+        failing[i] = i as u64 + 1;
+    }
+    let trial = Trial {
+        failing_writes: &failing,
+        ..Trial::of(FIRST)
+    };
+    trial.expect(&rt, b"", Status::WriteFault);
+}
+
+#[test]
+fn disk_calls_that_fail(rt: HostRuntime) {
+    let front = b"0 begun\n0 put\n0 put\n0 queued\ndisk fault\n".as_slice();
+    let all = b"0 begun\n0 put\n0 put\n0 queued\n0 committed 1\n0 begun\ndisk fault\n".as_slice();
+    for (failing, output) in [(1, front), (2, front), (3, front), (4, all)] {
+        let trial = Trial {
+            failing_disk_calls: &[failing],
+            ..Trial::of(TWO_PUTS)
+        };
+        trial.expect(&rt, output, Status::DiskFault);
+    }
+    let trial = Trial {
+        failing_disk_calls: &[5],
+        ..Trial::of(TWO_PUTS)
+    };
+    trial.expect(
+        &rt,
+        b"0 begun\n0 put\n0 put\n0 queued\n0 committed 1\n0 begun\n0 value 1 01\n",
+        Status::Done,
+    );
+}
+
+// Where an allocation of the run fails, the answers so far stay, and no other stands in their place.
+#[test]
+fn want_of_memory_changes_no_answer(rt: HostRuntime) {
+    let Ok(ended) = Trial::of(FIRST).run(rt.alloc()) else {
+        return;
+    };
+    let taken = ended.sink.taken();
+    if ended.status == Status::Done {
+        assert!(rt; taken == FIRST_OUTPUT);
+        return;
+    }
+    assert!(rt; ended.status == Status::OutOfMemory);
+    let closing = b"out of memory\n".as_slice();
+    let answers = taken.strip_suffix(closing).unwrap_or(taken);
+    assert!(rt; FIRST_OUTPUT.starts_with(answers));
+}

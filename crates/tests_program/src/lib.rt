@@ -1,0 +1,13 @@
+//! Tests of the program over a source, a sink and a disk in memory.
+#![tactic(auto)]
+
+#[cfg(test)]
+mod faults;
+#[cfg(test)]
+mod pages;
+#[cfg(test)]
+mod scripts;
+#[cfg(test)]
+mod trial;
+#[cfg(test)]
+mod words;

@@ -1,0 +1,97 @@
+// A run to be tried, and how it ended.
+
+use blob_base::{Bytes, Bytes64, OutOfMemory, Word};
+use blob_steps::{Status, run_alone};
+use disk_model::MemDisk;
+use io_ends::{MemSink, MemSource};
+use std::alloc::Global;
+use std::process::Abort;
+
+/// A script with every answer but a refusal, and what it is answered.
+pub(crate) const FIRST: &[u8] =
+    b"0 begin\n0 put demo/a x:616263\n0 commit\nlead\n0 begin\n0 get demo/a\n";
+
+pub(crate) const FIRST_OUTPUT: &[u8] =
+    b"0 begun\n0 put\n0 queued\n0 committed 1\n0 begun\n0 value 3 616263\n";
+
+/// A run: its words, its script, how many bytes a read gives, the calls that fail, and how many pages the disk has.
+#[derive(Clone, Copy)]
+pub(crate) struct Trial<'a> {
+    pub(crate) words: &'a [&'a str],
+    pub(crate) script: &'a [u8],
+    pub(crate) piece: usize,
+    pub(crate) failing_reads: &'a [u64],
+    pub(crate) failing_writes: &'a [u64],
+    pub(crate) failing_disk_calls: &'a [u64],
+    pub(crate) pages: u32,
+}
+
+impl<'a> Trial<'a> {
+    /// A script in the smallest store, where nothing fails.
+    pub(crate) fn of(script: &'a [u8]) -> Trial<'a> {
+        Trial {
+            words: &["fresh", "s", "1", "1"],
+            script,
+            piece: 4096,
+            failing_reads: &[],
+            failing_writes: &[],
+            failing_disk_calls: &[],
+            pages: 2053,
+        }
+    }
+
+    /// Does the run.
+    pub(crate) fn run(&self, alloc: Global) -> Result<Ended, OutOfMemory> {
+        let words = words_of(alloc, self.words)?;
+        let script = Bytes::of(alloc, self.script)?;
+        let reads = numbers(alloc, self.failing_reads)?;
+        let mut source = MemSource::new(script, self.piece.max(1), reads);
+        let mut sink = MemSink::new(alloc, numbers(alloc, self.failing_writes)?);
+        let calls = numbers(alloc, self.failing_disk_calls)?;
+        let disk = MemDisk::new(alloc, self.pages, calls)?;
+        let (status, disk) = run_alone(alloc, words.as_slice(), &mut source, &mut sink, disk);
+        Ok(Ended { status, sink, disk })
+    }
+
+    /// Does the run, and compares how it ended.
+    pub(crate) fn expect<R: Abort + AllocGlobal>(&self, rt: &R, output: &[u8], status: Status) {
+        let ended = self.run(rt.alloc()).expect(rt, "memory");
+        assert!(rt;
+            ended.status == status,
+            "{:?} {:?}",
+            self.script,
+            ended.status
+        );
+        assert!(rt;
+            ended.sink.taken() == output,
+            "{:?} {:?}",
+            self.script,
+            ended.sink.taken()
+        );
+    }
+}
+
+/// How a run ended: its status, the sink of its output, and its disk.
+#[derive(Drop)]
+pub(crate) struct Ended {
+    pub(crate) status: Status,
+    pub(crate) sink: MemSink,
+    pub(crate) disk: MemDisk,
+}
+
+fn words_of(alloc: Global, texts: &[&str]) -> Result<Vec<Word>, OutOfMemory> {
+    let mut words = Vec::new(alloc);
+    for text in texts {
+        words.push(Word::of(alloc, text.as_bytes())?)?;
+    }
+    Ok(words)
+}
+
+fn numbers(alloc: Global, calls: &[u64]) -> Result<Bytes64, OutOfMemory> {
+    Ok(Bytes64::from_vec(calls.to_vec(alloc)?))
+}
+
+/// Runs a script in the smallest store, where nothing fails, and compares how it ended.
+pub(crate) fn expect<R: Abort + AllocGlobal>(rt: &R, script: &str, output: &str, status: Status) {
+    Trial::of(script.as_bytes()).expect(rt, output.as_bytes(), status);
+}

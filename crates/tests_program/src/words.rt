@@ -1,0 +1,78 @@
+// Command lines.
+
+use crate::trial::Trial;
+use blob_base::StoreRefusal;
+use blob_steps::Status;
+use std::test::Fail;
+
+#[test]
+fn words_that_are_no_form(rt: HostRuntime) {
+    for words in [
+        [].as_slice(),
+        ["fresh"].as_slice(),
+        ["fresh", "s", "1"].as_slice(),
+        ["fresh", "s", "1", "1", "1"].as_slice(),
+        ["fresh", "", "1", "1"].as_slice(),
+        ["fresh", "s", "0", "1"].as_slice(),
+        ["fresh", "s", "1", "0"].as_slice(),
+        ["fresh", "s", "16385", "1"].as_slice(),
+        ["fresh", "s", "1", "1025"].as_slice(),
+        ["fresh", "s", "01", "1"].as_slice(),
+        ["fresh", "s", "+1", "1"].as_slice(),
+        ["fresh", "s", "1", "4294967297"].as_slice(),
+        ["Fresh", "s", "1", "1"].as_slice(),
+        ["steps", "s"].as_slice(),
+    ] {
+        let trial = Trial {
+            words,
+            ..Trial::of(b"lead\n")
+        };
+        trial.expect(&rt, b"usage\n", Status::Usage);
+    }
+}
+
+#[test]
+fn a_disk_that_is_too_small(rt: HostRuntime) {
+    let trial = Trial {
+        pages: 2052,
+        ..Trial::of(b"lead\n")
+    };
+    let why = StoreRefusal::TooSmall {
+        need: 2053,
+        have: 2052,
+    };
+    trial.expect(
+        &rt,
+        b"store refused: too-small 2053 2052\n",
+        Status::Refused { why },
+    );
+}
+
+// Those of the program's exit.
+#[test]
+fn codes_of_the_statuses(rt: HostRuntime) {
+    let why = StoreRefusal::OwnedTwice { page: 1 };
+    for (status, code) in [
+        (Status::Done, 0),
+        (Status::ReadFault, 3),
+        (Status::WriteFault, 4),
+        (Status::DiskFault, 5),
+        (Status::Refused { why }, 6),
+        (Status::OutOfMemory, 7),
+        (Status::Usage, 8),
+        (Status::NotBuilt { line: 3 }, 10),
+    ] {
+        assert_eq!(rt; status.code(), code);
+    }
+}
+
+#[test]
+fn the_largest_store(rt: HostRuntime) -> Result<(), Fail> {
+    let trial = Trial {
+        words: &["fresh", "s", "16384", "1024"],
+        pages: 16_780_291,
+        ..Trial::of(b"lead\n")
+    };
+    trial.expect(&rt, b"idle\n", Status::Done);
+    Ok(())
+}

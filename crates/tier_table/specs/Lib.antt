@@ -1,0 +1,2 @@
+pub mod Values
+pub use Rattle.store_model.specs.Shape
