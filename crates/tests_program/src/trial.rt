@@ -14,10 +14,10 @@ pub(crate) const FIRST: &[u8] =
 pub(crate) const FIRST_OUTPUT: &[u8] =
     b"0 begun\n0 put\n0 queued\n0 committed 1\n0 begun\n0 value 3 616263\n";
 
-/// A run: its words, its script, how many bytes a read gives, the calls that fail, and how many pages the disk has.
+/// A run: its words, parted by one blank each, its script, how many bytes a read gives, the calls that fail, and how many pages the disk has.
 #[derive(Clone, Copy)]
 pub(crate) struct Trial<'a> {
-    pub(crate) words: &'a [&'a str],
+    pub(crate) words: &'a str,
     pub(crate) script: &'a [u8],
     pub(crate) piece: usize,
     pub(crate) failing_reads: &'a [u64],
@@ -30,7 +30,7 @@ impl<'a> Trial<'a> {
     /// A script in the smallest store, where nothing fails.
     pub(crate) fn of(script: &'a [u8]) -> Trial<'a> {
         Trial {
-            words: &["fresh", "s", "1", "1"],
+            words: "fresh s 1 1",
             script,
             piece: 4096,
             failing_reads: &[],
@@ -79,10 +79,14 @@ pub(crate) struct Ended {
     pub(crate) disk: MemDisk,
 }
 
-fn words_of(alloc: Global, texts: &[&str]) -> Result<Vec<Word>, OutOfMemory> {
+// The words of a command line; an empty one has none.
+fn words_of(alloc: Global, line: &str) -> Result<Vec<Word>, OutOfMemory> {
     let mut words = Vec::new(alloc);
-    for text in texts {
-        words.push(Word::of(alloc, text.as_bytes())?)?;
+    if line.is_empty() {
+        return Ok(words);
+    }
+    for word in line.split(' ') {
+        words.push(Word::of(alloc, word.as_bytes())?)?;
     }
     Ok(words)
 }

@@ -8,20 +8,20 @@ use std::test::Fail;
 #[test]
 fn words_that_are_no_form(rt: HostRuntime) {
     for words in [
-        [].as_slice(),
-        ["fresh"].as_slice(),
-        ["fresh", "s", "1"].as_slice(),
-        ["fresh", "s", "1", "1", "1"].as_slice(),
-        ["fresh", "", "1", "1"].as_slice(),
-        ["fresh", "s", "0", "1"].as_slice(),
-        ["fresh", "s", "1", "0"].as_slice(),
-        ["fresh", "s", "16385", "1"].as_slice(),
-        ["fresh", "s", "1", "1025"].as_slice(),
-        ["fresh", "s", "01", "1"].as_slice(),
-        ["fresh", "s", "+1", "1"].as_slice(),
-        ["fresh", "s", "1", "4294967297"].as_slice(),
-        ["Fresh", "s", "1", "1"].as_slice(),
-        ["steps", "s"].as_slice(),
+        "",
+        "fresh",
+        "fresh s 1",
+        "fresh s 1 1 1",
+        "fresh  1 1",
+        "fresh s 0 1",
+        "fresh s 1 0",
+        "fresh s 16385 1",
+        "fresh s 1 1025",
+        "fresh s 01 1",
+        "fresh s +1 1",
+        "fresh s 1 4294967297",
+        "Fresh s 1 1",
+        "steps s",
     ] {
         let trial = Trial {
             words,
@@ -69,7 +69,7 @@ fn codes_of_the_statuses(rt: HostRuntime) {
 #[test]
 fn the_largest_store(rt: HostRuntime) -> Result<(), Fail> {
     let trial = Trial {
-        words: &["fresh", "s", "16384", "1024"],
+        words: "fresh s 16384 1024",
         pages: 16_780_291,
         ..Trial::of(b"lead\n")
     };
