@@ -1,5 +1,8 @@
 // The values that a chain starts from and gives.
 
+ghost use Rattle.std.specs.Prelude.{◌≡◌};
+ghost use Rattle.store_model.specs.Hash.{initial_state};
+
 /// The state after a whole number of blocks of a message: the eight words H0 to H7 of section 6.2.
 #[derive(Clone, Copy, Debug, PartialEq, Eq)]
 pub struct Mark {
@@ -25,3 +28,11 @@ pub const START: Mark = Mark {
         0x5be0_cd19,
     ],
 };
+
+impl Default for Mark {
+    ghost is_default = { λ mark. mark.words ≡ initial_state };
+
+    fn default() -> Mark {
+        START
+    }
+}

@@ -1,2 +1,3 @@
 pub mod HashLaws
 pub mod ShapeLaws
+pub mod StateLaws

@@ -12,3 +12,5 @@ pub mod Layout
 pub mod Disk
 pub mod Form
 pub mod Closing
+pub mod State
+pub mod Tuple

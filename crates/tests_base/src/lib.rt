@@ -15,3 +15,5 @@ mod keys;
 mod lists;
 #[cfg(test)]
 mod shape;
+#[cfg(test)]
+mod states;

@@ -1,0 +1,162 @@
+// Drafts: states that have no place yet.
+
+ghost use Rattle.std.specs.Prelude.{◌≡◌, ℕ, ◌+◌, ◌*◌, ◌/◌, ◌<◌, ◌≤◌, List, Option, [], length, take, IfOk, IfErr, OnOk};
+ghost use Rattle.store_model.specs.Disk.{page_bytes};
+ghost use Rattle.store_model.specs.Hash.{Leads, initial_state};
+ghost use Rattle.store_model.specs.Shape.{greatest_size};
+ghost use Rattle.store_model.specs.State.{State, AreAligned, AreMarks, HasExtents, HasTail, IsDraft, IsNumber, MarksTell, Places, Tells, heads_of, marks_of, prefix_of};
+ghost use Rattle.blob_state.specs.Values.{extents_of, words_of};
+
+use crate::state::EXTENTS;
+use crate::{BlobState, Extent};
+use arrayvec::ArrayVec;
+use sha_resume::{Chain, Digest, Mark};
+use std::marker::Model;
+use tier_table::{TooLong, shape, used};
+
+const PAGE_BYTES: usize = 4096;
+
+const PREFIX_BYTES: usize = 32;
+
+/// What is kept of a content before its pages have a place: its size, its digest, its first bytes and its marks. It
+/// takes about 4.2 KB.
+#[derive(Drop)]
+pub struct Draft {
+    size: u64,
+    digest: Digest,
+    prefix: [u8; PREFIX_BYTES],
+    marks: ArrayVec<Mark, EXTENTS>,
+}
+
+impl Model for Draft {
+    ghost use Rattle.store_model.specs.State.{Draft as Drafted, IsDraft};
+
+    ghost Value = { Drafted };
+
+    ghost use Rattle.blob_state.specs.Fields.{draft_of};
+
+    ghost view = { draft_of };
+
+    ghost invariant = { λ d. IsDraft (draft_of d) };
+}
+
+impl Draft {
+    /// The draft of a content, each byte of which is hashed once. It fails where the content is longer than `MAX_SIZE`.
+    pub fn put(content: &[u8]) -> Result<Draft, TooLong>
+        ensures fits { OnOk result (length content.now ≤ greatest_size) }
+        ensures too_long { IfErr result (λ _. greatest_size < length content.now) }
+        ensures size { IfErr result (λ long. long.size ≡ length content.now) }
+        ensures sized { IfOk result (λ draft. draft.size ≡ length content.now) }
+
+        // Wherever the draft is placed, the state is one of the content.
+        ensures tells { IfOk result (λ draft. (heads : List ℕ) (tail : Option ℕ) (number : ℕ) (state : State)
+            → Places draft heads tail number state → Tells state content.now) }
+    {
+        let shape = shape(content.len() as u64)?;
+        let mut marks = ArrayVec::new();
+        let chain = hash_extents(content, shape.extents, &mut marks);
+        let tail = content.len() / PAGE_BYTES * PAGE_BYTES;
+        Ok(Draft {
+            size: content.len() as u64,
+            digest: chain.finish(&content[tail..]),
+            prefix: prefix(content),
+            marks,
+        })
+    }
+
+    /// How many bytes the content has. The rules that each draft keeps are a clause here.
+    pub fn size(&self) -> u64
+        ensures value { result ≡ self.now.size }
+        ensures rules { IsDraft self.now }
+    {
+        self.size
+    }
+
+    /// The digest of the content.
+    pub fn digest(&self) -> &Digest
+        ensures { result.now.bytes ≡ self.now.digest }
+    {
+        &self.digest
+    }
+
+    /// The marks at the ends of its extents, in order.
+    pub fn marks(&self) -> &[Mark]
+        ensures words { words_of result.now ≡ self.now.marks }
+        ensures count { length result.now ≡ length self.now.marks }
+    {
+        self.marks.as_slice()
+    }
+
+    /// The state with its extents at these heads and its tail on this page, written by the entry of this number.
+    pub fn place(&self, heads: &ArrayVec<u32, 127>, tail: Option<u32>, born: u64) -> BlobState
+        requires count { length heads.now.items ≡ length self.now.marks }
+        requires aligned { AreAligned heads.now.items }
+        requires tail { HasTail self.now.size tail }
+        requires born { IsNumber born }
+        ensures { Places self.now heads.now.items tail born result }
+    {
+        BlobState {
+            size: self.size,
+            born,
+            digest: self.digest,
+            prefix: self.prefix,
+            extents: join(heads, &self.marks),
+            tail,
+        }
+    }
+}
+
+// Hashes the full pages of a content extent by extent, and adds the mark at the end of each.
+fn hash_extents(content: &[u8], extents: u32, marks: &mut ArrayVec<Mark, EXTENTS>) -> Chain
+    requires fits { length content.now ≤ greatest_size }
+    requires extents { HasExtents (length content.now) extents }
+    requires most { extents ≤ 127 }
+    requires none { marks.old.items ≡ [] }
+    ensures told { MarksTell (words_of marks.new.items) content.now }
+    ensures sound { AreMarks (words_of marks.new.items) }
+    ensures number { length marks.new.items ≡ extents }
+    ensures led { Leads initial_state (take (page_bytes * (length content.now / page_bytes)) content.now) result.mark }
+    ensures blocks { page_bytes * (length content.now / page_bytes) ≡ 64 * result.count }
+{
+    let size = content.len() as u64;
+    let mut chain = Chain::new();
+    let mut start = 0;
+    'hashed: for i in 0..extents {
+        let end = start + used(size, i) as usize * PAGE_BYTES;
+        chain.blocks(&content[start..end]);
+        marks.push(chain.mark());
+        start = end;
+    }
+    chain
+}
+
+// The first 32 bytes of a content, with zeros behind a shorter one.
+fn prefix(content: &[u8]) -> [u8; PREFIX_BYTES]
+    ensures { result ≡ prefix_of content.now }
+{
+    let mut prefix = [0; PREFIX_BYTES];
+    let length = content.len().min(PREFIX_BYTES);
+    prefix[..length].copy_from_slice(&content[..length]);
+    prefix
+}
+
+// Each mark with its head.
+fn join(
+    heads: &ArrayVec<u32, EXTENTS>,
+    marks: &ArrayVec<Mark, EXTENTS>,
+) -> ArrayVec<Extent, EXTENTS>
+    requires { length heads.now.items ≡ length marks.now.items }
+    ensures heads { heads_of (extents_of result.items) ≡ heads.now.items }
+    ensures marks { marks_of (extents_of result.items) ≡ words_of marks.now.items }
+{
+    let heads = heads.as_slice();
+    let marks = marks.as_slice();
+    let mut extents = ArrayVec::new();
+    for i in 0..heads.len() {
+        extents.push(Extent {
+            head: heads[i],
+            mark: marks[i],
+        });
+    }
+    extents
+}

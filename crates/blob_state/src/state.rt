@@ -1,0 +1,152 @@
+// States of objects.
+
+ghost use Rattle.std.specs.Prelude.{◌≡◌, ◌≤◌, length};
+ghost use Rattle.store_model.specs.State.{IsState};
+ghost use Rattle.store_model.specs.Tuple.{spelling, tail_spelling};
+ghost use Rattle.blob_state.specs.Values.{extents_of};
+
+use crate::{Extent, Print};
+use arrayvec::ArrayVec;
+use blob_base::Key;
+use sha_resume::Digest;
+use std::marker::Model;
+
+// The greatest number of extents.
+pub(crate) const EXTENTS: usize = 127;
+
+// How many bytes of a stored state its fields before the extents take.
+pub(crate) const FIELDS_BYTES: usize = 76;
+
+// How many bytes of a stored state an extent takes.
+pub(crate) const EXTENT_BYTES: usize = 36;
+
+// How many bytes of a stored state a tail takes.
+const TAIL_BYTES: usize = 4;
+
+/// What is kept of an object's content: its size, its digest and its first bytes, for each extent where it stands and
+/// the mark at its end, the page of its tail, and the number of the entry that wrote it.
+///
+/// A value takes about 4.7 KB, however few extents it has, and a move of it copies them all: pass it by reference, and
+/// keep it where it is.
+#[derive(Drop)]
+pub struct BlobState {
+    pub(crate) size: u64,
+    pub(crate) born: u64,
+    pub(crate) digest: Digest,
+    pub(crate) prefix: [u8; 32],
+    pub(crate) extents: ArrayVec<Extent, EXTENTS>,
+    pub(crate) tail: Option<u32>,
+}
+
+impl Model for BlobState {
+    ghost use Rattle.store_model.specs.State.{State, IsState};
+
+    ghost Value = { State };
+
+    ghost use Rattle.blob_state.specs.Fields.{state_of};
+
+    ghost view = { state_of };
+
+    ghost invariant = { λ s. IsState (state_of s) };
+}
+
+impl BlobState {
+    /// How many bytes the content has. The rules that each state keeps are a clause here.
+    pub fn size(&self) -> u64
+        ensures value { result ≡ self.now.size }
+        ensures rules { IsState self.now }
+    {
+        self.size
+    }
+
+    /// The number of the entry that wrote it.
+    pub fn born(&self) -> u64
+        ensures { result ≡ self.now.born }
+    {
+        self.born
+    }
+
+    /// The digest of the content.
+    pub fn digest(&self) -> &Digest
+        ensures { result.now.bytes ≡ self.now.digest }
+    {
+        &self.digest
+    }
+
+    /// The first 32 bytes of the content, with zeros behind a shorter one.
+    pub fn prefix(&self) -> &[u8; 32]
+        ensures { result.now ≡ self.now.prefix }
+    {
+        &self.prefix
+    }
+
+    /// Its extents in order.
+    pub fn extents(&self) -> &[Extent]
+        ensures { extents_of result.now ≡ self.now.extents }
+    {
+        self.extents.as_slice()
+    }
+
+    /// The page of its tail, where it has one.
+    pub fn tail(&self) -> Option<u32>
+        ensures { result ≡ self.now.tail }
+    {
+        self.tail
+    }
+
+    /// Its size and its digest.
+    pub fn print(&self) -> Print
+        ensures size { result.size ≡ self.now.size }
+        ensures digest { result.digest.bytes ≡ self.now.digest }
+    {
+        Print {
+            size: self.size,
+            digest: self.digest,
+        }
+    }
+
+    /// The same state; it takes no memory.
+    pub fn copy(&self) -> BlobState
+        ensures { result ≡ self.now }
+    {
+        BlobState {
+            size: self.size,
+            born: self.born,
+            digest: self.digest,
+            prefix: self.prefix,
+            extents: copy_extents(&self.extents),
+            tail: self.tail,
+        }
+    }
+
+    /// How many bytes it takes where it is stored with this key.
+    pub fn encoded(&self, key: &Key) -> usize
+        ensures value { result ≡ length (spelling key.now self.now) }
+        ensures most { result ≤ 4717 }
+    {
+        let key_bytes = 1 + key.text().len();
+        key_bytes + FIELDS_BYTES + EXTENT_BYTES * self.extents.len() + tail_bytes(self.tail)
+    }
+}
+
+// How many bytes of a stored state its tail takes.
+fn tail_bytes(tail: Option<u32>) -> usize
+    ensures value { result ≡ length (tail_spelling tail) }
+    ensures most { result ≤ 4 }
+{
+    match tail {
+        Some(_) => TAIL_BYTES,
+        None => 0,
+    }
+}
+
+// The same extents.
+fn copy_extents(from: &ArrayVec<Extent, EXTENTS>) -> ArrayVec<Extent, EXTENTS>
+    ensures { result.items ≡ from.now.items }
+{
+    let mut copy = ArrayVec::new();
+    for extent in from.as_slice() {
+        copy.push(*extent);
+    }
+    copy
+}

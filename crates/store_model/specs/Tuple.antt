@@ -1,0 +1,44 @@
+-- The stored form of a key with its object's state. Number fields have their high byte first.
+use Rattle.std.specs.Prelude.{ℕ, ◌+◌, ◌<◌, ◌≤◌, IsTrue, List, [], ◌∷◌, ◌++◌, length, slice_get, Option, Some, None, IfSome, ◌≡◌}
+use Rattle.std.specs.Int.{w32, w64, to_be_bytes}
+use Rattle.std.specs.List.{flat_map}
+use Rattle.store_model.specs.Hash.{bytes_of_state}
+use Rattle.store_model.specs.Key.{is_key}
+use Rattle.store_model.specs.Shape.{pages_of_extent}
+use Rattle.store_model.specs.State.{Extent, State, IsState}
+
+-- a length of one byte, and the key
+abbrev pub key_spelling : List ℕ → List ℕ
+key_spelling key = length key ∷ key
+
+-- a head of four bytes, and the mark's eight words
+abbrev pub extent_spelling : Extent → List ℕ
+extent_spelling extent = to_be_bytes w32 extent.head ++ bytes_of_state extent.mark
+
+-- four bytes where there is a tail, and nothing where there is none
+abbrev pub tail_spelling : Option ℕ → List ℕ
+tail_spelling None = []
+tail_spelling (Some page) = to_be_bytes w32 page
+
+-- the size in four bytes, the number in eight, the digest and the prefix
+abbrev pub fields_spelling : State → List ℕ
+fields_spelling state = to_be_bytes w32 state.size ++ to_be_bytes w64 state.born ++ state.digest ++ state.prefix
+
+-- each extent in turn, and the tail
+abbrev pub places_spelling : List Extent → Option ℕ → List ℕ
+places_spelling extents tail = flat_map extent_spelling extents ++ tail_spelling tail
+
+-- a state without a key
+abbrev pub state_spelling : State → List ℕ
+state_spelling state = fields_spelling state ++ places_spelling state.extents state.tail
+
+-- The key, and the state. How many extents there are, and whether there is a tail, follows from the size.
+abbrev pub spelling : List ℕ → State → List ℕ
+spelling key state = key_spelling key ++ state_spelling state
+
+-- a key and a state whose pages are among so many data pages
+pub record IsTuple (pages : ℕ) (key : List ℕ) (state : State) : Type 0 where
+  pub named : IsTrue (is_key key)
+  pub stands : IsState state
+  pub extents : (i : ℕ) (extent : Extent) → slice_get state.extents i ≡ Some extent → extent.head + pages_of_extent i ≤ pages
+  pub tail : IfSome state.tail (λ page. page < pages)
