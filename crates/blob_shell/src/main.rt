@@ -1,14 +1,29 @@
-//! The program: its command line over standard input, standard output and a disk in memory.
+//! The program: its command line over standard input, standard output and the file that the words name.
 #![tactic(auto)]
 
 use blob_base::{Bytes64, OutOfMemory, Word};
 use blob_steps::{Form, Status, run_alone};
-use disk_model::MemDisk;
+use disk_file::{FileDisk, OpenFailed};
+use disk_model::{Disk, MemDisk};
 use io_ends::{StdSink, StdSource};
-use std::env;
 use std::io::ErrorKind;
 use std::process::ExitCode;
 use std::rt::Env;
+use std::{env, str};
+
+// The exit status where the system refuses the file.
+const CANNOT_OPEN: u8 = 11;
+
+// The forms of a command line, those that aren't built yet included.
+const FORMS: [&str; 7] = [
+    "format FILE UNITS ROOM",
+    "fresh FILE UNITS ROOM",
+    "steps FILE",
+    "drill FILE FROM COUNT",
+    "check FILE",
+    "show FILE",
+    "many FILE",
+];
 
 // The words behind the program's name. There are none where one of them isn't UTF-8, and that is no form either.
 fn words_of<R: Env + AllocGlobal>(rt: &R) -> Result<Vec<Word>, OutOfMemory> {
@@ -28,29 +43,57 @@ fn words_of<R: Env + AllocGlobal>(rt: &R) -> Result<Vec<Word>, OutOfMemory> {
     Ok(words)
 }
 
-// How many pages the words ask for; none where they are no form.
-fn pages_for(words: &[Word]) -> u32 {
-    match &Form::read(words) {
-        Some(Form::Fresh { layout }) => layout.total(),
-        None => 0,
+// The path that the word behind the verb is.
+fn path_of(words: &[Word]) -> Option<&str> {
+    match words {
+        [_, file, ..] => str::from_utf8(file.as_slice()).ok(),
+        _ => None,
     }
 }
 
-// Runs the command line.
-fn run(rt: &HostRuntime) -> Result<Status, OutOfMemory> {
-    let words = words_of(rt)?;
-    let pages = pages_for(words.as_slice());
-    let disk = MemDisk::new(rt.alloc(), pages, Bytes64::new(rt.alloc()))?;
+// Runs the words over a disk, between standard input and standard output.
+fn run_over<D: Disk + Drop>(rt: &HostRuntime, words: &[Word], disk: D) -> Status {
     let mut source = StdSource::new(rt.stdin());
     let mut sink = StdSink::new(rt.stdout());
-    let (status, _) = run_alone(rt.alloc(), words.as_slice(), &mut source, &mut sink, disk);
-    Ok(status)
+    let (status, _) = run_alone(rt.alloc(), words, &mut source, &mut sink, disk);
+    status
+}
+
+// Runs the words over a new file of so many pages, and answers the exit status.
+fn run_fresh(rt: &HostRuntime, words: &[Word], path: &str, pages: u32) -> u8 {
+    match FileDisk::create(rt, path, pages) {
+        Ok(disk) => run_over(rt, words, disk).code(),
+        Err(OpenFailed::Refused) => {
+            let _ = eprintln!(rt; "cannot open {path}");
+            CANNOT_OPEN
+        }
+        Err(OpenFailed::OutOfMemory) => Status::OutOfMemory.code(),
+    }
+}
+
+// Turns words away that are no form: on standard output as any run, and on standard error with the forms.
+fn turn_away(rt: &HostRuntime, words: &[Word]) -> Result<u8, OutOfMemory> {
+    let none = MemDisk::new(rt.alloc(), 0, Bytes64::new(rt.alloc()))?;
+    let status = run_over(rt, words, none);
+    for form in FORMS {
+        let _ = eprintln!(rt; "{form}");
+    }
+    Ok(status.code())
+}
+
+// Runs the command line, and answers the exit status.
+fn run(rt: &HostRuntime) -> Result<u8, OutOfMemory> {
+    let words = words_of(rt)?;
+    let words = words.as_slice();
+    match (&Form::read(words), path_of(words)) {
+        (Some(form), Some(path)) => Ok(run_fresh(rt, words, path, form.layout().total())),
+        _ => turn_away(rt, words),
+    }
 }
 
 fn main(rt: HostRuntime) -> ExitCode {
-    let status = match run(&rt) {
-        Ok(status) => status,
-        Err(OutOfMemory) => Status::OutOfMemory,
-    };
-    ExitCode::from(status.code())
+    ExitCode::from(match run(&rt) {
+        Ok(code) => code,
+        Err(OutOfMemory) => Status::OutOfMemory.code(),
+    })
 }

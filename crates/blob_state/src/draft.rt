@@ -4,7 +4,7 @@ ghost use Rattle.std.specs.Prelude.{◌≡◌, ℕ, ◌+◌, ◌*◌, ◌/◌, �
 ghost use Rattle.store_model.specs.Disk.{page_bytes};
 ghost use Rattle.store_model.specs.Hash.{Leads, initial_state};
 ghost use Rattle.store_model.specs.Shape.{greatest_size};
-ghost use Rattle.store_model.specs.State.{State, AreAligned, AreMarks, HasExtents, HasTail, IsDraft, IsNumber, MarksTell, Places, Tells, heads_of, marks_of, prefix_of};
+ghost use Rattle.store_model.specs.State.{AreAligned, AreMarks, HasExtents, HasTail, IsDraft, IsDraftOf, IsNumber, MarksTell, Places, Tells, heads_of, marks_of, prefix_of};
 ghost use Rattle.blob_state.specs.Values.{extents_of, words_of};
 
 use crate::state::EXTENTS;
@@ -46,11 +46,8 @@ impl Draft {
         ensures fits { OnOk result (length content.now ≤ greatest_size) }
         ensures too_long { IfErr result (λ _. greatest_size < length content.now) }
         ensures size { IfErr result (λ long. long.size ≡ length content.now) }
-        ensures sized { IfOk result (λ draft. draft.size ≡ length content.now) }
-
-        // Wherever the draft is placed, the state is one of the content.
-        ensures tells { IfOk result (λ draft. (heads : List ℕ) (tail : Option ℕ) (number : ℕ) (state : State)
-            → Places draft heads tail number state → Tells state content.now) }
+        ensures draft { IfOk result (λ draft. IsDraftOf draft content.now) }
+        ensures rules { IfOk result IsDraft }
     {
         let shape = shape(content.len() as u64)?;
         let mut marks = ArrayVec::new();
@@ -93,7 +90,10 @@ impl Draft {
         requires aligned { AreAligned heads.now.items }
         requires tail { HasTail self.now.size tail }
         requires born { IsNumber born }
-        ensures { Places self.now heads.now.items tail born result }
+        ensures places { Places self.now heads.now.items tail born result }
+
+        // Wherever the draft of a content is placed, the state is one of the content.
+        ensures tells { (content : List ℕ) → IsDraftOf self.now content → Tells result content }
     {
         BlobState {
             size: self.size,

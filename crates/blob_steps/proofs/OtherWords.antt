@@ -18,13 +18,13 @@ no_action_one [] d least most a b = absurd (omega arith)
 no_action_one (w ∷ []) d least most a b = rw a (rw b refl)
 no_action_one (w ∷ x ∷ words) d least most a b = absurd (omega arith)
 
--- two words, the first of which isn't this one
+-- two words, the first of which isn't one of two
 pub no_action_two : (words : List (Bor (List ℕ))) (d : Bor (List ℕ)) → 2 ≤ length words → length words < 3
-    → bytes_eq (get_or words 0 d).now (codes "get") ≡ false → None ≡ action_of (texts words)
-no_action_two [] d least most a = absurd (omega arith)
-no_action_two (w ∷ []) d least most a = absurd (omega arith)
-no_action_two (w ∷ x ∷ []) d least most a = rw a refl
-no_action_two (w ∷ x ∷ y ∷ words) d least most a = absurd (omega arith)
+    → bytes_eq (get_or words 0 d).now (codes "get") ≡ false → bytes_eq (get_or words 0 d).now (codes "stat") ≡ false → None ≡ action_of (texts words)
+no_action_two [] d least most a b = absurd (omega arith)
+no_action_two (w ∷ []) d least most a b = absurd (omega arith)
+no_action_two (w ∷ x ∷ []) d least most a b = rw a (rw b refl)
+no_action_two (w ∷ x ∷ y ∷ words) d least most a b = absurd (omega arith)
 
 -- three words, the first of which isn't this one
 pub no_action_three : (words : List (Bor (List ℕ))) (d : Bor (List ℕ)) → 3 ≤ length words → length words < 4

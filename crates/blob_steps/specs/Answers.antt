@@ -9,12 +9,14 @@ use Rattle.store_model.specs.Answer as model
 abbrev pub model_line : AnswerLine → model.AnswerLine
 model_line line.Begun = model.Begun
 model_line (line.Value content) = model.Value content
+model_line (line.Stat size digest) = model.Stat size digest.bytes
 model_line line.Put = model.Put
 model_line line.Queued = model.Queued
 model_line line.Busy = model.Busy
 model_line line.Already = model.Already
 model_line line.NoTransaction = model.NoTransaction
 model_line (line.TooMany keys) = model.TooMany keys
+model_line (line.TooLong size) = model.TooLong size
 model_line (line.Stale now) = model.Stale now
 model_line line.Absent = model.Absent
 model_line (line.Committed number) = model.Committed number

@@ -11,6 +11,8 @@ use Rattle.store_model.specs.Turn.{is_one_too_many, is_stale, with_read}
 use Rattle.store_model.specs.Turn as model
 use Rattle.store_model.specs.Answer as answer
 use Rattle.store_model.specs.Store.{Store, content_at}
+use Rattle.blob_steps.specs.declared.session.Look.{Look}
+use Rattle.blob_steps.specs.declared.session.Look.TheVariants as look
 use Rattle.blob_steps.specs.declared.session.Got.{Got}
 use Rattle.blob_steps.specs.declared.session.Got.TheVariants as got
 use Rattle.blob_steps.specs.Answers.{model_line}
@@ -33,10 +35,20 @@ ReadGives old key now reading.Stale new = (is_one_too_many old key ≡ false) ×
 ReadGives old key now reading.Own new = (contains_key old.changes key ≡ true) × IsRead old key now new
 ReadGives old key now reading.Stored new = (contains_key old.changes key ≡ false) × IsRead old key now new
 
--- the line of a get over this store
-abbrev pub got_line : Store → List ℕ → Got → answer.AnswerLine
-got_line store key (got.Line line) = model_line line
-got_line store key got.Stored = model.shown (content_at store key)
+-- what a look shows of a key's content
+abbrev pub show_of : Look → Option (List ℕ) → answer.AnswerLine
+show_of look.Get = model.shown
+show_of look.Stat = model.measured
+
+-- the action that a look is
+abbrev pub look_action : Look → List ℕ → model.Action
+look_action look.Get key = model.Get key
+look_action look.Stat key = model.Stat key
+
+-- the line of a look over this store
+abbrev pub got_line : Look → Store → List ℕ → Got → answer.AnswerLine
+got_line look store key (got.Line line) = model_line line
+got_line look store key got.Stored = show_of look (content_at store key)
 
 -- how many changes a session has made
 abbrev pub change_count : model.Session → ℕ

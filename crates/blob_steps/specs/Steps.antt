@@ -7,7 +7,7 @@ use Rattle.blob_steps.specs.Sessions.{model_session, change_count}
 use Rattle.blob_steps.specs.Worlds.{IsWorld}
 use Rattle.store_model.specs.Disk.{Image}
 use Rattle.store_model.specs.Answer.{AnswerLine}
-use Rattle.store_model.specs.Turn.{Action, Begin, Get, Put, Commit, turn}
+use Rattle.store_model.specs.Turn.{Action, Begin, Get, Stat, Put, Commit, turn}
 use Rattle.store_model.specs.Group as model
 use Rattle.store_model.specs.Group.{lead}
 use Rattle.store_model.specs.Play.{with_turn, step_play}
@@ -31,6 +31,7 @@ pub record IsLead (base image : Image) (world : model.World) (answer : Answer) (
 abbrev pub IsSmallAction : Action → Type 0
 IsSmallAction Begin = Unit {0}
 IsSmallAction (Get key) = Unit {0}
+IsSmallAction (Stat key) = Unit {0}
 IsSmallAction (Put key content) = length content ≤ 4095
 IsSmallAction Commit = Unit {0}
 

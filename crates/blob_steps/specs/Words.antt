@@ -17,6 +17,7 @@ abbrev pub model_action : Action → turn.Action
 model_action action.Begin = turn.Begin
 model_action action.Commit = turn.Commit
 model_action (action.Get key) = turn.Get key
+model_action (action.Stat key) = turn.Stat key
 model_action (action.Put key content) = turn.Put key content
 
 abbrev pub model_step : Step → model.Step

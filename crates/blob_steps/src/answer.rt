@@ -1,10 +1,11 @@
 // The answers to a script's lines, as they are printed.
 
 ghost use Rattle.std.specs.Prelude.{◌≡◌, ◌++◌, OnOk, decimal};
-ghost use Rattle.store_model.specs.Answer.{line_text, Value};
+ghost use Rattle.store_model.specs.Answer.{line_text, Value, Stat};
 ghost use Rattle.blob_steps.specs.Answers.{model_line, text_of};
 
 use blob_base::{Bytes, OutOfMemory};
+use sha_resume::Digest;
 use std::alloc::Global;
 
 /// What stands behind the session in the answer to a session's line.
@@ -12,12 +13,14 @@ use std::alloc::Global;
 pub(crate) enum AnswerLine {
     Begun,
     Value { content: Bytes },
+    Stat { size: u64, digest: Digest },
     Put,
     Queued,
     Busy,
     Already,
     NoTransaction,
     TooMany { keys: u32 },
+    TooLong { size: u64 },
     Stale { now: Option<u64> },
     Absent,
     Committed { number: u64 },
@@ -54,6 +57,7 @@ impl AnswerLine {
         match self {
             AnswerLine::Begun => out.append(alloc, b"begun"),
             AnswerLine::Value { content } => append_value(alloc, out, content.as_slice()),
+            AnswerLine::Stat { size, digest } => append_stat(alloc, out, *size, &digest.bytes),
             AnswerLine::Put => out.append(alloc, b"put"),
             AnswerLine::Queued => out.append(alloc, b"queued"),
             AnswerLine::Busy => out.append(alloc, b"busy"),
@@ -65,6 +69,7 @@ impl AnswerLine {
                 b"too-many ",
                 u64::from(*keys),
             ),
+            AnswerLine::TooLong { size } => append_labelled(alloc, out, b"too-long ", *size),
             AnswerLine::Stale { now: Some(now) } => append_labelled(alloc, out, b"stale ", *now),
             AnswerLine::Stale { now: None } => out.append(alloc, b"stale none"),
             AnswerLine::Absent => out.append(alloc, b"absent"),
@@ -91,6 +96,20 @@ fn append_labelled(
 {
     out.append(alloc, label)?;
     append_number(alloc, out, number)
+}
+
+// Adds a content's size and digest.
+fn append_stat(
+    alloc: Global,
+    out: &mut Bytes,
+    size: u64,
+    digest: &[u8; 32],
+) -> Result<(), OutOfMemory>
+    ensures { OnOk result (out.new ≡ out.old ++ line_text (Stat size digest.now)) }
+{
+    append_labelled(alloc, out, b"stat ", size)?;
+    out.append(alloc, b" ")?;
+    out.append(alloc, hex::encode(alloc, digest)?.as_bytes())
 }
 
 // Adds a content's size and its bytes.

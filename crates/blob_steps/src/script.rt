@@ -18,6 +18,7 @@ pub(crate) enum Action {
     Begin,
     Commit,
     Get { key: Key },
+    Stat { key: Key },
     Put { key: Key, content: Bytes },
 }
 
@@ -43,18 +44,19 @@ fn words_of(alloc: Global, line: &[u8]) -> Result<Vec<&[u8]>, AllocError>
     line.split(|byte| *byte == b' ').collect(alloc)
 }
 
-// What hexadecimal digits spell, where that is 1 to 4095 bytes.
+// What hexadecimal digits spell, where that is at most 4095 bytes.
 fn decoded_content(alloc: Global, digits: &[u8]) -> Result<Option<Bytes>, OutOfMemory>
     ensures { IfOk result (λ content. content ≡ small_content (decode_of digits.now)) }
 {
     match hex::decode(alloc, digits) {
-        Ok(bytes) if 1 <= bytes.len() && bytes.len() <= 4095 => Ok(Some(Bytes::from_vec(bytes))),
+        Ok(bytes) if bytes.len() <= 4095 => Ok(Some(Bytes::from_vec(bytes))),
         Err(FromHexError::OutOfMemory) => Err(OutOfMemory),
         _ => Ok(None),
     }
 }
 
-// The content that a word spells, where it spells one: `x:` and hexadecimal digits of 1 to 4095 bytes.
+// The content that a word spells, where it spells one: `x:` and the hexadecimal digits of at most 4095
+// bytes.
 fn content_of(alloc: Global, word: &[u8]) -> Result<Option<Bytes>, OutOfMemory>
     ensures { IfOk result (λ content. content ≡ spelled_content word.now) }
 {
@@ -77,6 +79,7 @@ fn read_action(alloc: Global, words: &[&[u8]]) -> Result<Option<Action>, OutOfMe
         [verb] if is(verb, b"begin") => Ok(Some(Action::Begin)),
         [verb] if is(verb, b"commit") => Ok(Some(Action::Commit)),
         [verb, key] if is(verb, b"get") => Ok(read_get(key)),
+        [verb, key] if is(verb, b"stat") => Ok(read_stat(key)),
         [verb, key, content] if is(verb, b"put") => read_put(alloc, key, content),
         _ => Ok(None),
     }
@@ -88,6 +91,16 @@ fn read_get(key: &[u8]) -> Option<Action>
 {
     match Key::read(key) {
         Ok(key) => Some(Action::Get { key }),
+        Err(_) => None,
+    }
+}
+
+// A stat of the key that a word is, where it is one.
+fn read_stat(key: &[u8]) -> Option<Action>
+    ensures { option_map model_action result ≡ option_map turn.Stat (key_of key.now) }
+{
+    match Key::read(key) {
+        Ok(key) => Some(Action::Stat { key }),
         Err(_) => None,
     }
 }

@@ -1,15 +1,16 @@
 // Sessions and their transactions.
 
-ghost use Rattle.std.specs.Prelude.{◌≡◌, ℕ, ◌<◌, ◌≤◌, length, Bool, option_copied, option_map, IfOk, IfErr, OnErr, IsTrue};
+ghost use Rattle.std.specs.Prelude.{◌≡◌, ℕ, ◌<◌, ◌≤◌, length, Bool, Some, option_map, IfOk, IfErr, OnErr, IsTrue};
 ghost use Rattle.std.specs.FinMap as map;
 ghost use Rattle.store_model.specs.Store.{Store, number_at};
 ghost use Rattle.store_model.specs.Transaction.{new_transaction, is_touched, touched_count, content_of};
-ghost use Rattle.store_model.specs.Turn.{is_one_too_many, get_turn, put_turn, turn};
+ghost use Rattle.store_model.specs.Turn.{is_one_too_many, look_turn, put_turn, turn};
 ghost use Rattle.store_model.specs.Turn as model;
 
 use crate::answer::AnswerLine;
 use crate::key_map::KeyMap;
 use blob_base::{Bytes, Key, OutOfMemory};
+use blob_state::Draft;
 use std::alloc::Global;
 use std::marker::Model;
 use std::mem;
@@ -17,21 +18,43 @@ use std::mem;
 // How many keys a transaction may touch.
 const MAX_KEYS: usize = 16;
 
-/// A change of a key: its new content, of at most 4095 bytes.
+/// A change of a key: its new content, of at most 4095 bytes, and the draft of its state.
 #[derive(Drop)]
 pub(crate) struct Change {
     pub(crate) content: Bytes,
+    pub(crate) draft: Box<Draft>,
 }
 
 impl Model for Change {
-    ghost use Rattle.std.specs.Prelude.{◌≤◌, length};
     ghost use Rattle.store_model.specs.Transaction as tr;
+    ghost use Rattle.blob_steps.specs.Coding.{IsSmallDraft};
 
     ghost Value = { tr.Change };
 
     ghost view = { λ change. tr.Put change.content };
 
-    ghost invariant = { λ change. length change.content ≤ 4095 };
+    ghost invariant = { λ change. IsSmallDraft change.draft.value change.content };
+}
+
+impl Change {
+    ghost use Rattle.store_model.specs.Transaction.{content_of};
+    ghost use Rattle.blob_steps.specs.Answers.{model_line};
+    ghost use Rattle.blob_steps.specs.Sessions.{show_of};
+
+    // What a look shows of its content.
+    fn show(&self, alloc: Global, look: Look) -> Result<AnswerLine, OutOfMemory>
+        ensures { IfOk result (λ line. model_line line ≡ show_of look (Some (content_of self.now))) }
+    {
+        match look {
+            Look::Get => Ok(AnswerLine::Value {
+                content: Bytes::of(alloc, self.content.as_slice())?,
+            }),
+            Look::Stat => Ok(AnswerLine::Stat {
+                size: self.draft.size(),
+                digest: *self.draft.digest(),
+            }),
+        }
+    }
 }
 
 /// What a transaction has read and changed.
@@ -65,7 +88,16 @@ pub(crate) enum Reading {
     Stored,
 }
 
-/// What a get is answered.
+/// What a look at a key shows of its content.
+#[derive(Clone, Copy, Debug, PartialEq, Eq)]
+pub(crate) enum Look {
+    /// Its bytes.
+    Get,
+    /// Its size and its digest.
+    Stat,
+}
+
+/// What a look is answered.
 #[derive(Drop)]
 pub(crate) enum Got {
     /// This line.
@@ -75,7 +107,7 @@ pub(crate) enum Got {
 }
 
 impl Transaction {
-    ghost use Rattle.blob_steps.specs.Sessions.{ReadGives, got_line};
+    ghost use Rattle.blob_steps.specs.Sessions.{ReadGives, got_line, show_of};
     ghost use Rattle.blob_steps.specs.Answers.{model_line};
 
     /// A transaction that has read and changed nothing.
@@ -126,10 +158,17 @@ impl Transaction {
         }
     }
 
-    // A get of a key whose number now is this one.
-    fn get(&mut self, alloc: Global, key: &Key, now: Option<u64>) -> Result<Got, OutOfMemory>
+    // A look at a key whose number now is this one.
+    fn look(
+        &mut self,
+        alloc: Global,
+        look: Look,
+        key: &Key,
+        now: Option<u64>,
+    ) -> Result<Got, OutOfMemory>
         ensures turn { IfOk result (λ got. (store : Store) → number_at store key.now ≡ now
-            → get_turn store self.old key.now ≡ record { line = got_line store key.now got; session = model.Open self.new }) }
+            → look_turn (show_of look) store self.old key.now
+            ≡ record { line = got_line look store key.now got; session = model.Open self.new }) }
         ensures changes { self.new.changes ≡ self.old.changes }
     {
         match self.read(key, now)? {
@@ -139,31 +178,27 @@ impl Transaction {
             Reading::Stale => Ok(Got::Line {
                 line: AnswerLine::Stale { now },
             }),
-            Reading::Own => match self.own(key) {
-                Some(content) => {
-                    let content = Bytes::of(alloc, content.as_slice())?;
-                    Ok(Got::Line {
-                        line: AnswerLine::Value { content },
-                    })
-                }
+            Reading::Own => match self.own(alloc, look, key)? {
+                Some(line) => Ok(Got::Line { line }),
                 None => Ok(Got::Stored),
             },
             Reading::Stored => Ok(Got::Stored),
         }
     }
 
-    /// The content that it puts under a key.
-    fn own(&self, key: &Key) -> Option<&Bytes>
-        ensures { option_copied result ≡ option_map content_of (map.get self.now.changes key.now) }
+    // What a look shows of the content that it puts under a key.
+    fn own(&self, alloc: Global, look: Look, key: &Key) -> Result<Option<AnswerLine>, OutOfMemory>
+        ensures { IfOk result (λ line. option_map model_line line
+            ≡ option_map (λ change. show_of look (Some (content_of change))) (map.get self.now.changes key.now)) }
     {
         match self.changes.get(key) {
-            Some(change) => Some(&change.content),
-            None => None,
+            Some(change) => Ok(Some(change.show(alloc, look)?)),
+            None => Ok(None),
         }
     }
 
     /// Puts a content under a key.
-    fn put(&mut self, key: Key, content: Bytes) -> Result<AnswerLine, OutOfMemory>
+    fn put(&mut self, alloc: Global, key: Key, content: Bytes) -> Result<AnswerLine, OutOfMemory>
         requires { length content ≤ 4095 }
         ensures turn { IfOk result (λ line. put_turn self.old key content
             ≡ record { line = model_line line; session = model.Open self.new }) }
@@ -172,8 +207,16 @@ impl Transaction {
         if self.is_one_too_many(&key) {
             return Ok(AnswerLine::TooMany { keys: 17 });
         }
-        self.changes.insert(key, Change { content })?;
-        Ok(AnswerLine::Put)
+        match Draft::put(content.as_slice()) {
+            Ok(draft) => {
+                let Ok(draft) = Box::new(alloc, draft) else {
+                    return Err(OutOfMemory);
+                };
+                self.changes.insert(key, Change { content, draft })?;
+                Ok(AnswerLine::Put)
+            }
+            Err(long) => Ok(AnswerLine::TooLong { size: long.size }),
+        }
     }
 
     /// Its changes.
@@ -193,7 +236,7 @@ pub(crate) enum Session {
 }
 
 impl Session {
-    ghost use Rattle.blob_steps.specs.Sessions.{model_session, got_line, change_count};
+    ghost use Rattle.blob_steps.specs.Sessions.{model_session, got_line, change_count, look_action};
     ghost use Rattle.blob_steps.specs.Answers.{model_line};
 
     pub(crate) fn begin(&mut self, alloc: Global) -> AnswerLine
@@ -229,35 +272,41 @@ impl Session {
         }
     }
 
-    pub(crate) fn put(&mut self, key: Key, content: Bytes) -> Result<AnswerLine, OutOfMemory>
+    pub(crate) fn put(
+        &mut self,
+        alloc: Global,
+        key: Key,
+        content: Bytes,
+    ) -> Result<AnswerLine, OutOfMemory>
         requires { length content ≤ 4095 }
         ensures { IfOk result (λ line. (store : Store) → turn store (model_session self.old) (model.Put key content)
             ≡ record { line = model_line line; session = model_session self.new }) }
     {
         match self {
             Session::Free => Ok(AnswerLine::NoTransaction),
-            Session::Open { transaction } => transaction.put(key, content),
+            Session::Open { transaction } => transaction.put(alloc, key, content),
             Session::Waiting { .. } => Ok(AnswerLine::Busy),
         }
     }
 
-    /// A get of a key whose number in the store is this one.
-    pub(crate) fn get(
+    /// A look at a key whose number in the store is this one.
+    pub(crate) fn look(
         &mut self,
         alloc: Global,
+        look: Look,
         key: &Key,
         now: Option<u64>,
     ) -> Result<Got, OutOfMemory>
         ensures turn { IfOk result (λ got. (store : Store) → number_at store key.now ≡ now
-            → turn store (model_session self.old) (model.Get key.now)
-            ≡ record { line = got_line store key.now got; session = model_session self.new }) }
+            → turn store (model_session self.old) (look_action look key.now)
+            ≡ record { line = got_line look store key.now got; session = model_session self.new }) }
         ensures changes { change_count (model_session self.new) ≡ change_count (model_session self.old) }
     {
         match self {
             Session::Free => Ok(Got::Line {
                 line: AnswerLine::NoTransaction,
             }),
-            Session::Open { transaction } => transaction.get(alloc, key, now),
+            Session::Open { transaction } => transaction.look(alloc, look, key, now),
             Session::Waiting { .. } => Ok(Got::Line {
                 line: AnswerLine::Busy,
             }),

@@ -6,11 +6,10 @@ ghost use Rattle.blob_base.specs.declared.faults.IoFault.TheVariants.{Failed};
 ghost use Rattle.store_model.specs.Disk.{Image};
 ghost use Rattle.store_model.specs.Layout.{total_pages};
 ghost use Rattle.store_model.specs.Group.{World as ModelWorld, new_world};
-ghost use Rattle.store_model.specs.Turn.{Get};
 
 use crate::answer::{Answer, AnswerLine};
 use crate::script::{Action, Step};
-use crate::session::{Got, Session};
+use crate::session::{Got, Look, Session};
 use crate::store::Store;
 use blob_base::{IoFault, Key};
 use disk_model::{Disk, Layout};
@@ -27,6 +26,7 @@ pub(crate) struct World {
 impl World {
     ghost use Rattle.blob_steps.specs.Answers.{model_line, text_of};
     ghost use Rattle.blob_steps.specs.Words.{model_action, model_step};
+    ghost use Rattle.blob_steps.specs.Sessions.{look_action};
     ghost use Rattle.blob_steps.specs.Steps.{Stands, IsTurn, IsLead, IsDone, IsPlayed, IsSmallAction, weight};
 
     /// An empty store, and no transaction.
@@ -65,7 +65,7 @@ impl World {
                 let line = self.turn(alloc, disk, action)?;
                 Ok(Answer::Session { session, line })
             }
-            Step::Lead => self.lead(disk),
+            Step::Lead => self.lead(alloc, disk),
         }
     }
 
@@ -90,21 +90,23 @@ impl World {
         match action {
             Action::Begin => Ok(self.session.begin(alloc)),
             Action::Commit => Ok(self.session.commit()),
-            Action::Get { key } => self.get(alloc, disk, &key),
-            Action::Put { key, content } => Ok(self.session.put(key, content)?),
+            Action::Get { key } => self.look(alloc, disk, Look::Get, &key),
+            Action::Stat { key } => self.look(alloc, disk, Look::Stat, &key),
+            Action::Put { key, content } => Ok(self.session.put(alloc, key, content)?),
         }
     }
 
-    // A get of the session.
-    fn get<D: Disk>(
+    // A look of the session at a key.
+    fn look<D: Disk>(
         &mut self,
         alloc: Global,
         disk: &mut D,
+        look: Look,
         key: &Key,
     ) -> Result<AnswerLine, IoFault>
         requires disk { total_pages self.old.store.layout ≤ D.size disk.old }
         ensures turn { IsTrue D.tells → (base : Image) (world : ModelWorld) → Stands base (D.reads disk.old) self.old world
-            → IfOk result (λ line. IsTurn base (D.reads disk.new) world (Get key.now) (model_line line) self.new) }
+            → IfOk result (λ line. IsTurn base (D.reads disk.new) world (look_action look key.now) (model_line line) self.new) }
         ensures weight { OnOk result (weight self.new ≤ weight self.old + 1) }
         ensures layout { self.new.store.layout ≡ self.old.store.layout }
         ensures size { D.size disk.new ≡ D.size disk.old }
@@ -113,14 +115,14 @@ impl World {
         ensures frugal { D.frugal disk.new ≡ D.frugal disk.old }
     {
         let now = self.store.number(key);
-        match self.session.get(alloc, key, now)? {
+        match self.session.look(alloc, look, key, now)? {
             Got::Line { line } => Ok(line),
-            Got::Stored => self.store.show(alloc, disk, key),
+            Got::Stored => self.store.show(alloc, disk, look, key),
         }
     }
 
     // A lead. After an `Err` nothing is said of the world.
-    fn lead<D: Disk>(&mut self, disk: &mut D) -> Result<Answer, IoFault>
+    fn lead<D: Disk>(&mut self, alloc: Global, disk: &mut D) -> Result<Answer, IoFault>
         requires weight { weight self.old < 1024 }
         requires disk { total_pages self.old.store.layout ≤ D.size disk.old }
         ensures lead { IsTrue D.tells → (base : Image) (world : ModelWorld) → Stands base (D.reads disk.old) self.old world
@@ -134,7 +136,7 @@ impl World {
     {
         match mem::replace(&mut self.session, Session::Free) {
             Session::Waiting { transaction } => {
-                let number = self.store.commit(disk, transaction.into_changes())?;
+                let number = self.store.commit(alloc, disk, transaction.into_changes())?;
                 Ok(Answer::Session {
                     session: 0,
                     line: AnswerLine::Committed { number },

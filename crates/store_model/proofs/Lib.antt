@@ -1,3 +1,4 @@
 pub mod HashLaws
 pub mod ShapeLaws
 pub mod StateLaws
+pub mod TupleLaws

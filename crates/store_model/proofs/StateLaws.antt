@@ -6,9 +6,9 @@ use Rattle.std.specs.List.{flat_map}
 use Rattle.std.proofs.lemmas.Bool.{cases_lt}
 use Rattle.std.proofs.lemmas.List.{length-replicate, length-take, take_min, take_all, drop-replicate, get_or-append_right}
 use Rattle.store_model.specs.Disk.{page_bytes}
-use Rattle.store_model.specs.Hash.{Leads, bytes_of_state, initial_state, sha256}
+use Rattle.store_model.specs.Hash.{Leads, bytes_of_state, initial_state}
 use Rattle.store_model.specs.Shape.{UsesExtent, held_by, pages_used}
-use Rattle.store_model.specs.State.{AreMarks, Draft, Extent, HasExtents, IsMark, IsPrefix, MarksTell, Places, State, Tells, bytes_through, marks_of, prefix_of}
+use Rattle.store_model.specs.State.{AreMarks, Draft, Extent, HasExtents, IsDraftOf, IsMark, IsPrefix, MarksTell, Places, State, Tells, bytes_through, marks_of, prefix_of}
 use Rattle.store_model.specs.Tuple.{extent_spelling, fields_spelling, key_spelling, places_spelling, spelling, state_spelling, tail_spelling}
 use Rattle.store_model.proofs.HashLaws.{Leads-empty}
 use Rattle.store_model.proofs.ShapeLaws.{held_by-next}
@@ -50,14 +50,13 @@ AreMarks-next marks mark before last i m is =
 
 -- wherever the draft of a content is placed, the state is one of the content
 pub Tells-Places : (draft : Draft) (content at : List ℕ) (end : Option ℕ) (number : ℕ) (state : State)
-    → draft.size ≡ length content → draft.digest ≡ sha256 content → draft.prefix ≡ prefix_of content → MarksTell draft.marks content
-    → Places draft at end number state → Tells state content
-Tells-Places draft content at end number state size digest prefix marks places =
+    → IsDraftOf draft content → Places draft at end number state → Tells state content
+Tells-Places draft content at end number state is places =
     record {
-      size = places.size ∙ size;
-      digest = places.digest ∙ digest;
-      prefix = places.prefix ∙ prefix;
-      marks = rw places.marks marks;
+      size = places.size ∙ is.size;
+      digest = places.digest ∙ is.digest;
+      prefix = places.prefix ∙ is.prefix;
+      marks = rw places.marks is.marks;
     }
 
 -- behind a content the prefix is zeros

@@ -6,12 +6,14 @@ use Rattle.hex.specs.Hex.{encode_lower}
 pub data AnswerLine : Type 0 where
   Begun : AnswerLine
   Value : List ℕ → AnswerLine
+  Stat : ℕ → List ℕ → AnswerLine
   Put : AnswerLine
   Queued : AnswerLine
   Busy : AnswerLine
   Already : AnswerLine
   NoTransaction : AnswerLine
   TooMany : ℕ → AnswerLine
+  TooLong : ℕ → AnswerLine
   Stale : Option ℕ → AnswerLine
   Absent : AnswerLine
   Committed : ℕ → AnswerLine
@@ -34,12 +36,14 @@ number_text None = codes "none"
 abbrev pub line_text : AnswerLine → List ℕ
 line_text Begun = codes "begun"
 line_text (Value content) = codes "value " ++ decimal (length content) ++ codes " " ++ hex_text content
+line_text (Stat size digest) = codes "stat " ++ decimal size ++ codes " " ++ encode_lower digest
 line_text Put = codes "put"
 line_text Queued = codes "queued"
 line_text Busy = codes "busy"
 line_text Already = codes "already"
 line_text NoTransaction = codes "no-transaction"
 line_text (TooMany n) = codes "too-many " ++ decimal n
+line_text (TooLong size) = codes "too-long " ++ decimal size
 line_text (Stale now) = codes "stale " ++ number_text now
 line_text Absent = codes "absent"
 line_text (Committed number) = codes "committed " ++ decimal number

@@ -14,3 +14,6 @@ pub mod Form
 pub mod Closing
 pub mod State
 pub mod Tuple
+pub mod Holds
+pub mod Field
+pub mod TupleFields

@@ -1,10 +1,10 @@
 -- Scripts: the lines of a text, and the steps that they ask for.
-use Rattle.std.specs.Prelude.{ℕ, ◌+◌, ◌&&◌, ◌==◌, nat_le, List, [], ◌∷◌, length, take, drop, Option, Some, None, Result, Ok, Err, option_map, option_and_then, codes, bytes_eq, if◌then◌else◌}
+use Rattle.std.specs.Prelude.{ℕ, ◌+◌, ◌==◌, nat_le, List, [], ◌∷◌, length, take, drop, Option, Some, None, Result, Ok, Err, option_map, option_and_then, codes, bytes_eq, if◌then◌else◌}
 use Rattle.std.specs.List.{slice_split}
 use Rattle.hex.specs.Hex.{decode_of}
 use Rattle.hex.specs.declared.error.FromHexError.{FromHexError}
 use Rattle.store_model.specs.Key.{key_of}
-use Rattle.store_model.specs.Turn.{Action, Begin, Get, Put, Commit}
+use Rattle.store_model.specs.Turn.{Action, Begin, Get, Stat, Put, Commit}
 
 -- a line that ended, and then the others; an empty rest after the last line end is no line
 abbrev pub without_empty_rest : List (List ℕ) → List (List ℕ)
@@ -22,9 +22,9 @@ pub data Step : Type 0 where
   Session : ℕ → Action → Step
   Lead : Step
 
--- where decoding succeeded, with 1 to 4095 bytes
+-- where decoding succeeded, with at most 4095 bytes
 abbrev pub small_content : Result (List ℕ) FromHexError → Option (List ℕ)
-small_content (Ok bytes) = if nat_le 1 (length bytes) && nat_le (length bytes) 4095 then Some bytes else None
+small_content (Ok bytes) = if nat_le (length bytes) 4095 then Some bytes else None
 small_content (Err _) = None
 
 -- the content that a word spells: `x:` and two hexadecimal digits of either case for each byte
@@ -38,7 +38,10 @@ action_of (verb ∷ []) =
     if bytes_eq verb (codes "begin") then Some Begin
     else if bytes_eq verb (codes "commit") then Some Commit
     else None
-action_of (verb ∷ key ∷ []) = if bytes_eq verb (codes "get") then option_map Get (key_of key) else None
+action_of (verb ∷ key ∷ []) =
+    if bytes_eq verb (codes "get") then option_map Get (key_of key)
+    else if bytes_eq verb (codes "stat") then option_map Stat (key_of key)
+    else None
 action_of (verb ∷ key ∷ content ∷ []) =
     if bytes_eq verb (codes "put") then option_and_then (λ k. option_map (λ c. Put k c) (spelled_content content)) (key_of key)
     else None

@@ -104,6 +104,13 @@ pub record IsDraft (draft : Draft) : Type 0 where
   pub extents : HasExtents draft.size (length draft.marks)
   pub marks : AreMarks draft.marks
 
+-- the draft is one of this content: its size, its digest, its prefix and each mark are those of the content
+pub record IsDraftOf (draft : Draft) (content : List ℕ) : Type 0 where
+  pub size : draft.size ≡ length content
+  pub digest : draft.digest ≡ sha256 content
+  pub prefix : draft.prefix ≡ prefix_of content
+  pub marks : MarksTell draft.marks content
+
 -- the state is this draft with its extents at these heads and its tail at this end, written by the entry of this number
 pub record Places (draft : Draft) (at : List ℕ) (end : Option ℕ) (number : ℕ) (state : State) : Type 0 where
   pub size : state.size ≡ draft.size

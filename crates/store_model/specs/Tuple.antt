@@ -42,3 +42,9 @@ pub record IsTuple (pages : ℕ) (key : List ℕ) (state : State) : Type 0 where
   pub stands : IsState state
   pub extents : (i : ℕ) (extent : Extent) → slice_get state.extents i ≡ Some extent → extent.head + pages_of_extent i ≤ pages
   pub tail : IfSome state.tail (λ page. page < pages)
+
+-- the tuple stands at the front of these bytes; anything may follow it
+pub record IsAtFront (pages : ℕ) (stored key : List ℕ) (state : State) : Type 0 where
+  pub tuple : IsTuple pages key state
+  pub rest : List ℕ
+  pub stored_is : stored ≡ spelling key state ++ rest

@@ -1,6 +1,8 @@
 -- One turn of a session: the answer to an action over the store, and the session after it.
-use Rattle.std.specs.Prelude.{ℕ, Bool, true, false, not, ◌&&◌, nat_le, ◌==◌, List, Option, Some, None, if◌then◌else◌}
+use Rattle.std.specs.Prelude.{ℕ, Bool, true, false, not, ◌&&◌, nat_le, nat_lt, ◌==◌, List, length, Option, Some, None, if◌then◌else◌}
 use Rattle.std.specs.FinMap.{get, insert, contains_key}
+use Rattle.store_model.specs.Hash.{sha256}
+use Rattle.store_model.specs.Shape.{greatest_size}
 use Rattle.store_model.specs.Store.{Store, number_at, content_at}
 use Rattle.store_model.specs.Transaction as tr
 use Rattle.store_model.specs.Transaction.{Transaction, Change, new_transaction, is_touched, touched_count, content_of}
@@ -17,6 +19,7 @@ pub data Session : Type 0 where
 pub data Action : Type 0 where
   Begin : Action
   Get : List ℕ → Action
+  Stat : List ℕ → Action
   Put : List ℕ → List ℕ → Action
   Commit : Action
 
@@ -69,23 +72,30 @@ abbrev pub shown : Option (List ℕ) → AnswerLine
 shown (Some content) = answer.Value content
 shown None = answer.Absent
 
--- a get in an open transaction
-abbrev pub get_turn : Store → Transaction → List ℕ → Turned
-get_turn store transaction key =
+-- a content's size and digest as an answer
+abbrev pub measured : Option (List ℕ) → AnswerLine
+measured (Some content) = answer.Stat (length content) (sha256 content)
+measured None = answer.Absent
+
+-- a look at a key in an open transaction, which shows this of its value
+abbrev pub look_turn : (Option (List ℕ) → AnswerLine) → Store → Transaction → List ℕ → Turned
+look_turn show store transaction key =
     if is_one_too_many transaction key then record { line = answer.TooMany 17; session = Open transaction }
     else if is_stale (number_at store key) transaction key then record { line = answer.Stale (number_at store key); session = Open transaction }
-    else record { line = shown (value_of store transaction key); session = Open (with_read (number_at store key) transaction key) }
+    else record { line = show (value_of store transaction key); session = Open (with_read (number_at store key) transaction key) }
 
 -- a put in an open transaction
 abbrev pub put_turn : Transaction → List ℕ → List ℕ → Turned
 put_turn transaction key content =
     if is_one_too_many transaction key then record { line = answer.TooMany 17; session = Open transaction }
+    else if nat_lt greatest_size (length content) then record { line = answer.TooLong (length content); session = Open transaction }
     else record { line = answer.Put; session = Open (record { reads = transaction.reads; changes = insert transaction.changes key (tr.Put content) }) }
 
 -- an action in an open transaction
 abbrev pub open_turn : Store → Transaction → Action → Turned
 open_turn store transaction Begin = record { line = answer.Already; session = Open transaction }
-open_turn store transaction (Get key) = get_turn store transaction key
+open_turn store transaction (Get key) = look_turn shown store transaction key
+open_turn store transaction (Stat key) = look_turn measured store transaction key
 open_turn store transaction (Put key content) = put_turn transaction key content
 open_turn store transaction Commit = record { line = answer.Queued; session = Waiting transaction }
 
@@ -93,6 +103,7 @@ open_turn store transaction Commit = record { line = answer.Queued; session = Wa
 abbrev pub free_turn : Action → Turned
 free_turn Begin = record { line = answer.Begun; session = Open new_transaction }
 free_turn (Get key) = record { line = answer.NoTransaction; session = Free }
+free_turn (Stat key) = record { line = answer.NoTransaction; session = Free }
 free_turn (Put key content) = record { line = answer.NoTransaction; session = Free }
 free_turn Commit = record { line = answer.NoTransaction; session = Free }
 

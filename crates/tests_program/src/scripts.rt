@@ -33,10 +33,20 @@ fn answers_of_well_formed_scripts(rt: HostRuntime) {
         ("0 begin", "0 begun\n"),
         ("lead\n", "idle\n"),
         ("0 get demo/a\n", "0 no-transaction\n"),
+        ("0 stat demo/a\n", "0 no-transaction\n"),
         ("0 put demo/a x:00\n", "0 no-transaction\n"),
         ("0 commit\n", "0 no-transaction\n"),
         ("0 begin\n0 begin\n", "0 begun\n0 already\n"),
         ("0 begin\n0 get demo/a\n", "0 begun\n0 absent\n"),
+        ("0 begin\n0 stat demo/a\n", "0 begun\n0 absent\n"),
+        (
+            "0 begin\n0 commit\n0 stat demo/a\n",
+            "0 begun\n0 queued\n0 busy\n",
+        ),
+        (
+            "0 begin\n0 put demo/a x:00\n0 stat demo/a\n0 stat demo/b\n",
+            "0 begun\n0 put\n0 stat 1 6e340b9cffb37a989ca544e6bb780a2c78901d3fb33738768511a30617afa01d\n0 absent\n",
+        ),
         ("0 begin\nlead\n", "0 begun\nidle\n"),
         (
             "0 begin\n0 commit\n0 begin\n0 get demo/a\n0 put demo/a x:00\n0 commit\n",
@@ -59,6 +69,17 @@ fn answers_of_well_formed_scripts(rt: HostRuntime) {
     }
 }
 
+// An empty content has a size, a digest and no byte.
+#[test]
+fn an_empty_content(rt: HostRuntime) {
+    expect(
+        &rt,
+        "0 begin\n0 put demo/a x:\n0 stat demo/a\n0 get demo/a\n0 commit\nlead\n0 begin\n0 get demo/a\n0 stat demo/a\n",
+        "0 begun\n0 put\n0 stat 0 e3b0c44298fc1c149afbf4c8996fb92427ae41e4649b934ca495991b7852b855\n0 value 0 -\n0 queued\n0 committed 1\n0 begun\n0 value 0 -\n0 stat 0 e3b0c44298fc1c149afbf4c8996fb92427ae41e4649b934ca495991b7852b855\n",
+        Status::Done,
+    );
+}
+
 #[test]
 fn lines_that_are_not_built(rt: HostRuntime) {
     for line in [
@@ -79,13 +100,15 @@ fn lines_that_are_not_built(rt: HostRuntime) {
         "lead now",
         "Lead",
         "0 abort",
-        "0 stat demo/a",
+        "0 stat",
+        "0 stat demo",
+        "0 stat demo/a x:",
+        "0 Stat demo/a",
         "0 get",
         "0 get demo",
         "0 get Demo/a",
         "0 get demo/\u{e9}",
         "0 put demo/a",
-        "0 put demo/a x:",
         "0 put demo/a x:616",
         "0 put demo/a x:6g",
         "0 put demo/a X:61",
@@ -138,8 +161,11 @@ fn a_script_has_at_most_16_lines(rt: HostRuntime) -> Result<(), Fail> {
 #[test]
 fn a_content_has_at_most_4095_bytes(rt: HostRuntime) -> Result<(), Fail> {
     let mut script = put_script(rt.alloc(), 4095)?;
-    Trial::of(script.as_slice()).expect(&rt, b"0 begun\n0 put\n", Status::Done);
-    script.append(rt.alloc(), b"ff")?;
+    script.append(rt.alloc(), b"\n0 stat demo/a")?;
+    let output =
+        b"0 begun\n0 put\n0 stat 4095 a0631471e083ff5b0d37b9971a126cf4285a3e2a4b4f417c360a168bfea8b70e\n";
+    Trial::of(script.as_slice()).expect(&rt, output, Status::Done);
+    let script = put_script(rt.alloc(), 4096)?;
     let status = Status::NotBuilt { line: 2 };
     Trial::of(script.as_slice()).expect(&rt, b"0 begun\nnot built line 2\n", status);
     Ok(())

@@ -9,10 +9,10 @@ use std::process::Abort;
 
 /// A script with every answer but a refusal, and what it is answered.
 pub(crate) const FIRST: &[u8] =
-    b"0 begin\n0 put demo/a x:616263\n0 commit\nlead\n0 begin\n0 get demo/a\n";
+    b"0 begin\n0 put demo/a x:616263\n0 commit\nlead\n0 begin\n0 get demo/a\n0 stat demo/a\n";
 
 pub(crate) const FIRST_OUTPUT: &[u8] =
-    b"0 begun\n0 put\n0 queued\n0 committed 1\n0 begun\n0 value 3 616263\n";
+    b"0 begun\n0 put\n0 queued\n0 committed 1\n0 begun\n0 value 3 616263\n0 stat 3 ba7816bf8f01cfea414140de5dae2223b00361a396177a9cb410ff61f20015ad\n";
 
 /// A run: its words, parted by one blank each, its script, how many bytes a read gives, the calls that fail, and how many pages the disk has.
 #[derive(Clone, Copy)]

@@ -3,11 +3,10 @@ use Rattle.std.proofs.Common.{◌≡◌, ℕ, ◌-◌, ◌*◌, ◌/◌, List, �
 use Rattle.std.proofs.lemmas.List.{length-take-le, take-append-drop, take_all}
 use Rattle.store_model.specs.Disk.{page_bytes}
 use Rattle.store_model.specs.Hash.{sha256}
-use Rattle.store_model.proofs.StateLaws.{Tells-Places}
 use Rattle.blob_state.proofs.draft.Draft.put.Goals as goal
 
-pub returns-clause-tells : goal.returns-clause-tells
-returns-clause-tells c heads tail number state places =
+pub returns-clause-draft : goal.returns-clause-draft
+returns-clause-draft c =
     let content : List ℕ = c.args.content.now in
     let all : ℕ = page_bytes * (length content / page_bytes) in
     let first : List ℕ = take all content in
@@ -20,4 +19,4 @@ returns-clause-tells c heads tail number state places =
     let whole : first ++ take (length content - full) (drop full content) ≡ content =
     ap (λ (xs : List ℕ). first ++ xs) rest ∙ ap (λ (n : ℕ). first ++ drop n content) same ∙ take-append-drop all content in
     let digest : c.finish.result.bytes ≡ sha256 content = c.finish.ensures.whole first len c.hash_extents-chain.ensures.led ∙ ap sha256 whole in
-    Tells-Places _ content heads tail number state refl digest c.prefix.ensures c.hash_extents-chain.ensures.told places
+    record { size = refl; digest = digest; prefix = c.prefix.ensures; marks = c.hash_extents-chain.ensures.told }

@@ -1,11 +1,12 @@
-use Rattle.std.proofs.Common.{◌≡◌, ◌+◌, arith, sym, ◌∙◌, ap, subst}
+use Rattle.std.proofs.Common.{◌+◌, [], ◌∷◌, arith, ◌∙◌, ap, subst}
 use Rattle.std.specs.FinMap as map
-use Rattle.store_model.specs.Layout.{Layout, data_page}
-use Rattle.store_model.specs.Transaction.{content_of}
-use Rattle.store_model.specs.Disk.{with_page, page_of}
-use Rattle.store_model.specs.Store.{Object}
+use Rattle.store_model.specs.Disk.{with_pages}
+use Rattle.store_model.specs.Group.{tail_place}
 use Rattle.store_model.specs.Key.{key_order}
-use Rattle.blob_steps.specs.Worlds.{SameObjects, tail_at}
+use Rattle.store_model.specs.Layout.{Layout, data_page}
+use Rattle.store_model.specs.Store.{Object}
+use Rattle.store_model.specs.Transaction.{content_of}
+use Rattle.blob_steps.specs.Worlds.{SameObjects, pages_of}
 use Rattle.blob_steps.proofs.Commits.{Committing-next}
 use Rattle.blob_steps.proofs.store.Store.commit.Goals as goal
 
@@ -15,14 +16,14 @@ loop-key-preserved g c =
     let so_far = c.loop-key.invariant in
     let kept = so_far.1 in
     let set = c.in_ok-set.ensures in
-    let content_is : content_of c.in-Some.change ≡ c.as_slice.result.now = ap content_of (sym c.change.view_is) ∙ sym c.as_slice.ensures in (
+    let content = content_of c.in-Some.change in (
       Committing-next disk.tells (data_page c.args.self.now.layout) (c.args.self.now.last + 1) _ _ (disk.reads c.set.new.disk) _ _ c.set.new.self.objects _ _ (map.entries c.pop_first.new.self)
-          (c.in-Some.key, c.in-Some.change) c.as_slice.result.now _ _ c.set.new.self.poured so_far.0
-          c.in-Some.ensures.first content_is set.poured
-          (λ tells. set.pages tells ∙ ap (λ layout. with_page (disk.reads c.loop-key.disk) (data_page layout + c.loop-key.self.poured) (page_of c.as_slice.result.now)) kept.layout)
+          (c.in-Some.key, c.in-Some.change) _ _ c.set.new.self.poured so_far.0
+          c.in-Some.ensures.first set.poured
+          (λ tells. set.pages tells ∙ ap (λ layout. with_pages (disk.reads c.loop-key.disk) (data_page layout + c.loop-key.self.poured) (pages_of (content ∷ []))) kept.layout)
           (λ tells. subst (λ (layout : Layout). (model : map.FinMap key_order Object) → SameObjects (disk.reads c.loop-key.disk) (data_page layout) c.loop-key.self.objects model
           → SameObjects (disk.reads c.set.new.disk) (data_page layout) c.set.new.self.objects
-          (map.insert model c.in-Some.key (record { content = c.as_slice.result.now; number = c.args.self.now.last + 1; place = tail_at c.loop-key.self.poured })))
+          (map.insert model c.in-Some.key (record { content = content; number = c.args.self.now.last + 1; place = tail_place c.loop-key.self.poured content })))
           kept.layout (set.objects tells)),
       record {
         layout = set.layout ∙ kept.layout;
@@ -30,6 +31,6 @@ loop-key-preserved g c =
         size = set.size ∙ kept.size;
         faults = omega (arith, set.faults, kept.faults);
         frugal = set.frugal ∙ kept.frugal;
-        count = omega (arith, set.poured, kept.count, c.in-Some.ensures.len);
+        most = omega (arith, set.most, kept.most, c.in-Some.ensures.len);
       },
     )

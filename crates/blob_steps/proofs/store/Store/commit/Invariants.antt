@@ -4,14 +4,14 @@ use Rattle.store_model.specs.Layout.{Layout, data_page}
 use Rattle.blob_steps.proofs.Commits.{Committing}
 use Rattle.blob_steps.proofs.store.Store.commit.Given as goal
 
--- what a commit leaves alone, and how many of its changes are done
+-- what a commit leaves alone, and how many of its changes are done at most
 pub record Unchanged (old_layout new_layout : Layout) (old_last new_last old_size new_size old_faults new_faults : ℕ) (old_frugal new_frugal : Bool) (begun poured all rest : ℕ) : Type 0 where
   pub layout : new_layout ≡ old_layout
   pub last : new_last ≡ old_last
   pub size : new_size ≡ old_size
   pub faults : old_faults ≤ new_faults
   pub frugal : new_frugal ≡ old_frugal
-  pub count : poured + rest ≡ begun + all
+  pub most : poured + rest ≤ begun + all
 
 abbrev pub invariant-loop-key : goal.invariant-loop-key
 invariant-loop-key g l =

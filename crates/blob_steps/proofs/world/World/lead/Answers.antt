@@ -19,4 +19,4 @@ returns-in_ok-number-in-Waiting-clause-lead g c = λ tells base world is.
 pub returns-in_ok-number-in-Waiting-clause-weight : goal.returns-in_ok-number-in-Waiting-clause-weight
 returns-in_ok-number-in-Waiting-clause-weight g c =
     let committed = c.in_ok-number-in-Waiting.ensures in
-    omega (arith, committed.last, committed.poured, ap len c.into_changes.ensures, ap (λ s. change_count (model_session s)) c.in-Waiting.ensures.value, ap (λ s. change_count (model_session s)) c.in-Waiting.ensures.after, len-empty key_order Change)
+    omega (arith, committed.last, committed.most, ap len c.into_changes.ensures, ap (λ s. change_count (model_session s)) c.in-Waiting.ensures.value, ap (λ s. change_count (model_session s)) c.in-Waiting.ensures.after, len-empty key_order Change)

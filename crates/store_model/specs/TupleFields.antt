@@ -1,0 +1,83 @@
+-- The fields of a stored tuple, by their offsets, and what is no tuple.
+use Rattle.std.specs.Prelude.{ℕ, ◌+◌, ◌*◌, ◌%◌, ◌^◌, ◌≤◌, ◌==◌, ◌&&◌, nat_le, nat_lt, Bool, true, List, [], ◌∷◌, ◌++◌, take, drop, slice_index, if◌then◌else◌}
+use Rattle.std.specs.Int.{w8, w32, w64, from_be_bytes}
+use Rattle.std.specs.List.{flat_map, list_all, range_with_len}
+use Rattle.store_model.specs.Disk.{page_bytes}
+use Rattle.store_model.specs.Field.{Field, KeyText, Number, Bytes, IsFirstBroken}
+use Rattle.store_model.specs.Shape.{greatest_size, pages_of_extent}
+use Rattle.store_model.specs.State.{HasExtents}
+
+-- from least to most
+abbrev pub is_within : ℕ → ℕ → ℕ → Bool
+is_within least most n = nat_le least n && nat_le n most
+
+-- whatever the bytes are
+abbrev pub any_bytes : List ℕ → Bool
+any_bytes bytes = true
+
+-- zeros past the size
+abbrev pub is_filled : ℕ → List ℕ → Bool
+is_filled size prefix = list_all (λ byte. byte == 0) (drop size prefix)
+
+-- a head of extent i: a multiple of its pages, which are among so many data pages
+abbrev pub is_head : ℕ → ℕ → ℕ → Bool
+is_head pages i head = head % pages_of_extent i == 0 && nat_le (head + pages_of_extent i) pages
+
+-- the key's length, 3 to 64, and the key
+abbrev pub key_fields : ℕ → List Field
+key_fields key =
+    record { at = 0; bytes = 1; rule = Number w8 (is_within 3 64) }
+    ∷ record { at = 1; bytes = key; rule = KeyText }
+    ∷ []
+
+-- the size, the number of the entry, the digest and the prefix of a content of this size
+abbrev pub content_fields : ℕ → ℕ → List Field
+content_fields at size =
+    record { at = at; bytes = 4; rule = Number w32 (λ n. nat_le n greatest_size) }
+    ∷ record { at = at + 4; bytes = 8; rule = Number w64 (is_within 1 (2 ^ 62)) }
+    ∷ record { at = at + 12; bytes = 32; rule = Bytes any_bytes }
+    ∷ record { at = at + 44; bytes = 32; rule = Bytes (is_filled size) }
+    ∷ []
+
+-- the head and the mark of extent i; the extents begin at `at`
+abbrev pub extent_fields : ℕ → ℕ → ℕ → List Field
+extent_fields pages at i =
+    record { at = at + 36 * i; bytes = 4; rule = Number w32 (is_head pages i) }
+    ∷ record { at = at + (36 * i + 4); bytes = 32; rule = Bytes any_bytes }
+    ∷ []
+
+-- the tail, where the size has one
+abbrev pub tail_fields : ℕ → ℕ → ℕ → List Field
+tail_fields pages at size =
+    if size % page_bytes == 0 then []
+    else record { at = at; bytes = 4; rule = Number w32 (λ page. nat_lt page pages) } ∷ []
+
+-- so many extents, and the tail
+abbrev pub places_fields : ℕ → ℕ → ℕ → ℕ → List Field
+places_fields pages at size extents = flat_map (extent_fields pages at) (range_with_len 0 extents) ++ tail_fields pages (at + 36 * extents) size
+
+-- the length that is told of the key
+abbrev pub told_key : List ℕ → ℕ
+told_key stored = slice_index stored 0
+
+-- where the fields behind the key begin
+abbrev pub content_at : List ℕ → ℕ
+content_at stored = 1 + told_key stored
+
+-- the size that is told
+abbrev pub told_size : List ℕ → ℕ
+told_size stored = from_be_bytes w32 (take 4 (drop (content_at stored) stored))
+
+-- the fields of a tuple with so many extents, whose key's length and size are those that these bytes tell
+abbrev pub tuple_fields : ℕ → List ℕ → ℕ → List Field
+tuple_fields pages stored extents =
+    key_fields (told_key stored)
+    ++ content_fields (content_at stored) (told_size stored)
+    ++ places_fields pages (content_at stored + 76) (told_size stored) extents
+
+-- The first field of a tuple that is cut short or breaks its rule is named by this offset. There are as many extents as
+-- the size has, where it is one.
+pub record IsBadTuple (pages : ℕ) (stored : List ℕ) (at : ℕ) : Type 0 where
+  pub extents : ℕ
+  pub counted : told_size stored ≤ greatest_size → HasExtents (told_size stored) extents
+  pub first : IsFirstBroken stored (tuple_fields pages stored extents) at
