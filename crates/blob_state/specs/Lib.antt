@@ -1,6 +1,9 @@
 pub mod Values
 pub mod Fields
+pub mod Reading
 pub use Rattle.store_model.specs.Hash
 pub use Rattle.store_model.specs.Shape
 pub use Rattle.store_model.specs.State
 pub use Rattle.store_model.specs.Tuple
+pub use Rattle.store_model.specs.Field
+pub use Rattle.store_model.specs.TupleFields

@@ -7,14 +7,12 @@ ghost use Rattle.store_model.specs.Shape.{greatest_size};
 ghost use Rattle.store_model.specs.State.{AreAligned, AreMarks, HasExtents, HasTail, IsDraft, IsDraftOf, IsNumber, MarksTell, Places, Tells, heads_of, marks_of, prefix_of};
 ghost use Rattle.blob_state.specs.Values.{extents_of, words_of};
 
-use crate::state::EXTENTS;
+use crate::state::{EXTENTS, PAGE_BYTES};
 use crate::{BlobState, Extent};
 use arrayvec::ArrayVec;
 use sha_resume::{Chain, Digest, Mark};
 use std::marker::Model;
 use tier_table::{TooLong, shape, used};
-
-const PAGE_BYTES: usize = 4096;
 
 const PREFIX_BYTES: usize = 32;
 

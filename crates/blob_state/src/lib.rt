@@ -2,11 +2,13 @@
 #![tactic(auto)]
 
 mod draft;
+mod reader;
 mod state;
 mod tuple;
 mod values;
 
 pub use draft::Draft;
+pub use reader::{BadTuple, Tuple, decode};
 pub use state::BlobState;
 pub use tuple::{encode, encode_into};
 pub use values::{Extent, Print};

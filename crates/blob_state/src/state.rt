@@ -11,6 +11,9 @@ use blob_base::Key;
 use sha_resume::Digest;
 use std::marker::Model;
 
+// How many bytes a page has.
+pub(crate) const PAGE_BYTES: usize = 4096;
+
 // The greatest number of extents.
 pub(crate) const EXTENTS: usize = 127;
 
@@ -130,7 +133,7 @@ impl BlobState {
 }
 
 // How many bytes of a stored state its tail takes.
-fn tail_bytes(tail: Option<u32>) -> usize
+pub(crate) fn tail_bytes(tail: Option<u32>) -> usize
     ensures value { result ≡ length (tail_spelling tail) }
     ensures most { result ≤ 4 }
 {

@@ -125,8 +125,8 @@ impl Run {
         requires played { IsPlayed (model_step step) }
         requires weight { weight self.old.world < 1024 }
         requires disk { total_pages self.old.world.store.layout ≤ D.size disk.old }
-        ensures step { IsTrue D.tells → (base : Image) (world : ModelWorld) → Stands base (D.reads disk.old) self.old.world world
-            → OnOk result (IsDone base (D.reads disk.new) world (model_step step) self.new.text self.new.world) }
+        ensures step { IsTrue D.tells → (base : Image) (world : ModelWorld) → Stands base (D.story disk.old).reads self.old.world world
+            → OnOk result (IsDone base (D.story disk.new).reads world (model_step step) self.new.text self.new.world) }
         ensures weight { OnOk result (weight self.new.world ≤ weight self.old.world + 1) }
         ensures reader { self.new.reader ≡ self.old.reader }
         ensures layout { self.new.world.store.layout ≡ self.old.world.store.layout }
@@ -159,12 +159,12 @@ impl Run {
         requires weight { weight self.old.world < 1024 }
         requires disk { total_pages self.old.world.store.layout ≤ D.size disk.old }
         ensures going { IsTrue D.tells → (base : Image) (taken : Option (List ℕ)) (whole : Played)
-            → Going base (D.reads disk.old) self.old.world number (prepend_known self.old.reader (S.left source.old)) taken (K.taken sink.old) whole
+            → Going base (D.story disk.old).reads self.old.world number (prepend_known self.old.reader (S.left source.old)) taken (K.taken sink.old) whole
             → MatchResult result
             (λ more. MatchBool more
-            (Going base (D.reads disk.new) self.new.world (number + 1) (prepend_known self.new.reader (S.left source.new)) taken (K.taken sink.new) whole)
-            (Ended Status.Done (K.frugal sink.old) base (D.reads disk.new) self.old.world.store.layout taken (K.taken sink.new) whole))
-            (λ status. Ended status (K.frugal sink.old) base (D.reads disk.new) self.old.world.store.layout taken (K.taken sink.new) whole) }
+            (Going base (D.story disk.new).reads self.new.world (number + 1) (prepend_known self.new.reader (S.left source.new)) taken (K.taken sink.new) whole)
+            (Ended Status.Done (K.frugal sink.old) base (D.story disk.new).reads self.old.world.store.layout taken (K.taken sink.new) whole))
+            (λ status. Ended status (K.frugal sink.old) base (D.story disk.new).reads self.old.world.store.layout taken (K.taken sink.new) whole) }
         ensures weight { OnOk result (weight self.new.world ≤ weight self.old.world + 1) }
         ensures layout { self.new.world.store.layout ≡ self.old.world.store.layout }
         ensures size { D.size disk.new ≡ D.size disk.old }
@@ -224,8 +224,8 @@ fn run_script<S: Source, K: Sink, D: Disk>(
     requires { total_pages layout ≤ D.size disk.old }
     ensures ended { IsTrue D.tells → (script : List ℕ) → S.left source.old ≡ Some script
         → MatchResult result
-        (λ _. Ended Status.Done (K.frugal sink.old) (D.reads disk.old) (D.reads disk.new) layout (K.taken sink.old) (K.taken sink.new) (play script))
-        (λ status. Ended status (K.frugal sink.old) (D.reads disk.old) (D.reads disk.new) layout (K.taken sink.old) (K.taken sink.new) (play script)) }
+        (λ _. Ended Status.Done (K.frugal sink.old) (D.story disk.old).reads (D.story disk.new).reads layout (K.taken sink.old) (K.taken sink.new) (play script))
+        (λ status. Ended status (K.frugal sink.old) (D.story disk.old).reads (D.story disk.new).reads layout (K.taken sink.old) (K.taken sink.new) (play script)) }
     ensures reason { IfErr result (λ status. HasReason status
         (record { source = S.faults source.old; sink = K.faults sink.old; disk = D.faults disk.old })
         (record { source = S.faults source.new; sink = K.faults sink.new; disk = D.faults disk.new })) }
@@ -264,7 +264,7 @@ fn fresh<S: Source, K: Sink, D: Disk>(
     ensures untouched { D.size disk.old < total_pages layout → K.taken sink.new ≡ K.taken sink.old }
     ensures accepted { total_pages layout ≤ D.size disk.old → IsAccepted result }
     ensures ended { IsTrue D.tells → (script : List ℕ) → S.left source.old ≡ Some script
-        → Ended result (K.frugal sink.old) (D.reads disk.old) (D.reads disk.new) layout (K.taken sink.old) (K.taken sink.new) (play script) }
+        → Ended result (K.frugal sink.old) (D.story disk.old).reads (D.story disk.new).reads layout (K.taken sink.old) (K.taken sink.new) (play script) }
     ensures reason { HasReason result
         (record { source = S.faults source.old; sink = K.faults sink.old; disk = D.faults disk.old })
         (record { source = S.faults source.new; sink = K.faults sink.new; disk = D.faults disk.new }) }
@@ -306,7 +306,7 @@ fn run_words<S: Source, K: Sink, D: Disk>(
         × (why ≡ TooSmall (total_pages layout) (D.size disk.old)) }
     ensures untouched { IsTurnedAway result → K.taken sink.new ≡ K.taken sink.old }
     ensures ended { IsTrue D.tells → (layout : LayoutParts) → IsFresh words.now layout → (script : List ℕ) → S.left source.old ≡ Some script
-        → Ended result (K.frugal sink.old) (D.reads disk.old) (D.reads disk.new) layout (K.taken sink.old) (K.taken sink.new) (play script) }
+        → Ended result (K.frugal sink.old) (D.story disk.old).reads (D.story disk.new).reads layout (K.taken sink.old) (K.taken sink.new) (play script) }
     ensures reason { HasReason result
         (record { source = S.faults source.old; sink = K.faults sink.old; disk = D.faults disk.old })
         (record { source = S.faults source.new; sink = K.faults sink.new; disk = D.faults disk.new }) }
@@ -363,7 +363,7 @@ pub fn run_alone<S: Source, K: Sink, D: Disk>(
     // and then the closing line.
     ensures text { IsTrue D.tells → (layout : LayoutParts) → IsFresh words.now layout → (script : List ℕ) → S.left source.old ≡ Some script
         → (taken : Option (List ℕ))
-        × Ended result.0 (K.frugal sink.old) (D.reads disk) (D.reads result.1) layout (K.taken sink.old) taken (play script)
+        × Ended result.0 (K.frugal sink.old) (D.story disk).reads (D.story result.1).reads layout (K.taken sink.old) taken (play script)
         × Closed result.0 (K.frugal sink.old) (K.faults sink.old) (K.faults sink.new) taken (K.taken sink.new) }
 
     // Where nothing was run, the closing line alone.

@@ -71,7 +71,7 @@ fn behind(page: u32, content: &[u8]) -> u32
 fn pour<D: Disk>(disk: &mut D, page: u32, content: &[u8]) -> Result<(), IoFault>
     requires page { page < D.size disk.old }
     requires fits { length content.now ≤ 4096 }
-    ensures bytes { IsTrue D.tells → OnOk result (D.reads disk.new ≡ with_pages (D.reads disk.old) page (pages_of (content.now ∷ []))) }
+    ensures bytes { IsTrue D.tells → OnOk result ((D.story disk.new).reads ≡ with_pages (D.story disk.old).reads page (pages_of (content.now ∷ []))) }
     ensures size { D.size disk.new ≡ D.size disk.old }
     ensures faults { D.faults disk.old ≤ D.faults disk.new }
     ensures cause { IfErr result (λ e. HasCause e (D.faults disk.old) (D.faults disk.new) (D.frugal disk.old)) }
@@ -93,8 +93,8 @@ fn gather<D: Disk>(
     requires small { IsSmall (1024 * layout.units) state.now }
     requires disk { total_pages layout ≤ D.size disk.old }
     ensures bytes { IsTrue D.tells → (content : List ℕ) → state.now.size ≡ length content
-        → Holds (D.reads disk.old) (data_page layout) (place_of state.now) content → IfOk result (λ bytes. bytes ≡ content) }
-    ensures pages { IsTrue D.tells → D.reads disk.new ≡ D.reads disk.old }
+        → Holds (D.story disk.old).reads (data_page layout) (place_of state.now) content → IfOk result (λ bytes. bytes ≡ content) }
+    ensures pages { IsTrue D.tells → (D.story disk.new).reads ≡ (D.story disk.old).reads }
     ensures size { D.size disk.new ≡ D.size disk.old }
     ensures faults { D.faults disk.old ≤ D.faults disk.new }
     ensures failed { IsErrOf result Failed → Rose (D.faults disk.old) (D.faults disk.new) }
@@ -173,9 +173,9 @@ impl Store {
     ) -> Result<AnswerLine, IoFault>
         requires { total_pages self.now.layout ≤ D.size disk.old }
         ensures line { IsTrue D.tells → (objects : map.FinMap key_order Object)
-            → SameObjects (D.reads disk.old) (data_page self.now.layout) self.now.objects objects
+            → SameObjects (D.story disk.old).reads (data_page self.now.layout) self.now.objects objects
             → IfOk result (λ line. model_line line ≡ show_of look (option_map (λ object. object.content) (map.get objects key.now))) }
-        ensures pages { IsTrue D.tells → D.reads disk.new ≡ D.reads disk.old }
+        ensures pages { IsTrue D.tells → (D.story disk.new).reads ≡ (D.story disk.old).reads }
         ensures size { D.size disk.new ≡ D.size disk.old }
         ensures faults { D.faults disk.old ≤ D.faults disk.new }
         ensures failed { IsErrOf result Failed → Rose (D.faults disk.old) (D.faults disk.new) }
@@ -200,11 +200,11 @@ impl Store {
         requires room { self.old.poured < 1024 }
         requires number { IsNumber number }
         requires disk { total_pages self.old.layout ≤ D.size disk.old }
-        ensures pages { IsTrue D.tells → OnOk result (D.reads disk.new
-            ≡ with_pages (D.reads disk.old) (data_page self.old.layout + self.old.poured) (pages_of (content_of change.now ∷ []))) }
+        ensures pages { IsTrue D.tells → OnOk result ((D.story disk.new).reads
+            ≡ with_pages (D.story disk.old).reads (data_page self.old.layout + self.old.poured) (pages_of (content_of change.now ∷ []))) }
         ensures objects { IsTrue D.tells → OnOk result ((objects : map.FinMap key_order Object)
-            → SameObjects (D.reads disk.old) (data_page self.old.layout) self.old.objects objects
-            → SameObjects (D.reads disk.new) (data_page self.old.layout) self.new.objects
+            → SameObjects (D.story disk.old).reads (data_page self.old.layout) self.old.objects objects
+            → SameObjects (D.story disk.new).reads (data_page self.old.layout) self.new.objects
             (map.insert objects key (record { content = content_of change.now; number = number; place = tail_place self.old.poured (content_of change.now) }))) }
         ensures poured { OnOk result (self.new.poured ≡ page_behind self.old.poured (content_of change.now)) }
         ensures most { OnOk result (self.new.poured ≤ self.old.poured + 1) }
@@ -239,12 +239,12 @@ impl Store {
         requires disk { total_pages self.old.layout ≤ D.size disk.old }
         ensures number { IfOk result (λ number. number ≡ self.old.last + 1) }
         ensures last { OnOk result (self.new.last ≡ self.old.last + 1) }
-        ensures pages { IsTrue D.tells → OnOk result (D.reads disk.new
-            ≡ with_pages (D.reads disk.old) (data_page self.old.layout + self.old.poured)
+        ensures pages { IsTrue D.tells → OnOk result ((D.story disk.new).reads
+            ≡ with_pages (D.story disk.old).reads (data_page self.old.layout + self.old.poured)
             (pages_of (change_contents (map.entries changes)))) }
         ensures objects { IsTrue D.tells → OnOk result ((objects : map.FinMap key_order Object)
-            → SameObjects (D.reads disk.old) (data_page self.old.layout) self.old.objects objects
-            → SameObjects (D.reads disk.new) (data_page self.old.layout) self.new.objects
+            → SameObjects (D.story disk.old).reads (data_page self.old.layout) self.old.objects objects
+            → SameObjects (D.story disk.new).reads (data_page self.old.layout) self.new.objects
             (objects_after (self.old.last + 1) self.old.poured objects (map.entries changes))) }
         ensures poured { OnOk result (self.new.poured
             ≡ self.old.poured + length (filter has_bytes (change_contents (map.entries changes)))) }
@@ -276,9 +276,9 @@ fn show_state<D: Disk>(
     requires small { IsSmall (1024 * layout.units) state.now }
     requires disk { total_pages layout ≤ D.size disk.old }
     ensures line { IsTrue D.tells → (content : List ℕ) → Tells state.now content
-        → Holds (D.reads disk.old) (data_page layout) (place_of state.now) content
+        → Holds (D.story disk.old).reads (data_page layout) (place_of state.now) content
         → IfOk result (λ line. model_line line ≡ show_of look (Some content)) }
-    ensures pages { IsTrue D.tells → D.reads disk.new ≡ D.reads disk.old }
+    ensures pages { IsTrue D.tells → (D.story disk.new).reads ≡ (D.story disk.old).reads }
     ensures size { D.size disk.new ≡ D.size disk.old }
     ensures faults { D.faults disk.old ≤ D.faults disk.new }
     ensures failed { IsErrOf result Failed → Rose (D.faults disk.old) (D.faults disk.new) }

@@ -51,8 +51,8 @@ impl World {
         requires played { IsPlayed (model_step step) }
         requires weight { weight self.old < 1024 }
         requires disk { total_pages self.old.store.layout ≤ D.size disk.old }
-        ensures step { IsTrue D.tells → (base : Image) (world : ModelWorld) → Stands base (D.reads disk.old) self.old world
-            → IfOk result (λ answer. IsDone base (D.reads disk.new) world (model_step step) (text_of answer) self.new) }
+        ensures step { IsTrue D.tells → (base : Image) (world : ModelWorld) → Stands base (D.story disk.old).reads self.old world
+            → IfOk result (λ answer. IsDone base (D.story disk.new).reads world (model_step step) (text_of answer) self.new) }
         ensures weight { OnOk result (weight self.new ≤ weight self.old + 1) }
         ensures layout { self.new.store.layout ≡ self.old.store.layout }
         ensures size { D.size disk.new ≡ D.size disk.old }
@@ -78,8 +78,8 @@ impl World {
     ) -> Result<AnswerLine, IoFault>
         requires small { IsSmallAction (model_action action) }
         requires disk { total_pages self.old.store.layout ≤ D.size disk.old }
-        ensures turn { IsTrue D.tells → (base : Image) (world : ModelWorld) → Stands base (D.reads disk.old) self.old world
-            → IfOk result (λ line. IsTurn base (D.reads disk.new) world (model_action action) (model_line line) self.new) }
+        ensures turn { IsTrue D.tells → (base : Image) (world : ModelWorld) → Stands base (D.story disk.old).reads self.old world
+            → IfOk result (λ line. IsTurn base (D.story disk.new).reads world (model_action action) (model_line line) self.new) }
         ensures weight { OnOk result (weight self.new ≤ weight self.old + 1) }
         ensures layout { self.new.store.layout ≡ self.old.store.layout }
         ensures size { D.size disk.new ≡ D.size disk.old }
@@ -105,8 +105,8 @@ impl World {
         key: &Key,
     ) -> Result<AnswerLine, IoFault>
         requires disk { total_pages self.old.store.layout ≤ D.size disk.old }
-        ensures turn { IsTrue D.tells → (base : Image) (world : ModelWorld) → Stands base (D.reads disk.old) self.old world
-            → IfOk result (λ line. IsTurn base (D.reads disk.new) world (look_action look key.now) (model_line line) self.new) }
+        ensures turn { IsTrue D.tells → (base : Image) (world : ModelWorld) → Stands base (D.story disk.old).reads self.old world
+            → IfOk result (λ line. IsTurn base (D.story disk.new).reads world (look_action look key.now) (model_line line) self.new) }
         ensures weight { OnOk result (weight self.new ≤ weight self.old + 1) }
         ensures layout { self.new.store.layout ≡ self.old.store.layout }
         ensures size { D.size disk.new ≡ D.size disk.old }
@@ -125,8 +125,8 @@ impl World {
     fn lead<D: Disk>(&mut self, alloc: Global, disk: &mut D) -> Result<Answer, IoFault>
         requires weight { weight self.old < 1024 }
         requires disk { total_pages self.old.store.layout ≤ D.size disk.old }
-        ensures lead { IsTrue D.tells → (base : Image) (world : ModelWorld) → Stands base (D.reads disk.old) self.old world
-            → IfOk result (λ answer. IsLead base (D.reads disk.new) world answer self.new) }
+        ensures lead { IsTrue D.tells → (base : Image) (world : ModelWorld) → Stands base (D.story disk.old).reads self.old world
+            → IfOk result (λ answer. IsLead base (D.story disk.new).reads world answer self.new) }
         ensures weight { OnOk result (weight self.new ≤ weight self.old + 1) }
         ensures layout { self.new.store.layout ≡ self.old.store.layout }
         ensures size { D.size disk.new ≡ D.size disk.old }

@@ -1,8 +1,8 @@
 -- What a disk over a file shows, and what it doesn't tell.
-use Rattle.std.specs.Prelude.{◌≡◌, ℕ, List, [], Option, Some, IfSome}
+use Rattle.std.specs.Prelude.{◌≡◌, ℕ, List, Option, Some, IfSome}
 use Rattle.std.specs.Io.KnownBytes.{Appends, Consumes, Keeps}
 use Rattle.disk_file.specs.declared.file.FileDisk.{FileDisk}
-use Rattle.store_model.specs.Disk.{Image, Calls}
+use Rattle.store_model.specs.Disk.{Calls}
 
 -- how many pages it has
 abbrev pub disk_size : {F : Type 0} → FileDisk F → ℕ
@@ -11,10 +11,6 @@ disk_size disk = disk.size
 -- how often it has failed
 abbrev pub disk_faults : {F : Type 0} → FileDisk F → ℕ
 disk_faults disk = disk.faults
-
--- It doesn't tell its pages, so these are no bytes of any.
-abbrev pub no_image : Image
-no_image page = []
 
 -- It doesn't tell its calls, so these are none that it counted.
 abbrev pub no_calls : Calls

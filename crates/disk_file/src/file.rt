@@ -5,7 +5,8 @@ ghost use Rattle.std.specs.Io.KnownBytes.{Keeps};
 ghost use Rattle.std.specs.Io.Seek.{MovesTo};
 ghost use Rattle.blob_base.specs.Faults.{HasCause};
 ghost use Rattle.blob_base.specs.declared.faults.IoFault.TheVariants.{Failed};
-ghost use Rattle.disk_file.specs.File.{disk_size, disk_faults, no_image, no_calls, ReadsAt, WritesAt};
+ghost use Rattle.disk_file.specs.File.{disk_size, disk_faults, no_calls, ReadsAt, WritesAt};
+ghost use Rattle.store_model.specs.Images.{untold};
 
 use crate::OpenFailed;
 use blob_base::IoFault;
@@ -14,8 +15,8 @@ use std::fs::{Files, OpenFile, OpenOptions};
 use std::io;
 use std::io::{Read, Seek, SeekFrom, Write};
 
-/// A disk over a file. It counts each error of the system as a fault, tells nothing of its pages and its calls, and is
-/// frugal.
+/// A disk over a file. It counts each error of the system as a fault, tells nothing of its pages, its images and its
+/// calls, and is frugal.
 #[derive(Drop)]
 pub struct FileDisk<F> {
     file: F,
@@ -128,7 +129,7 @@ impl<F: Read + Write + Seek + OpenFile + Drop> Disk for FileDisk<F> {
 
     ghost size = { λ disk. disk.size };
 
-    ghost reads = { λ _. no_image };
+    ghost story = { λ _. untold };
 
     ghost calls = { λ _. no_calls };
 

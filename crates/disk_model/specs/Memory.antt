@@ -1,12 +1,18 @@
 -- What a disk in memory tells.
-use Rattle.std.specs.Prelude.{ℕ}
+use Rattle.std.specs.Prelude.{ℕ, take}
 use Rattle.disk_model.specs.declared.memory.MemDisk.{MemDisk}
-use Rattle.disk_model.specs.Calls.{image_of, calls_of}
-use Rattle.store_model.specs.Disk.{Image, Calls}
+use Rattle.disk_model.specs.Calls.{Replay, image_of, settled, replay_calls, calls_of}
+use Rattle.disk_model.specs.Stories.{story_of}
+use Rattle.store_model.specs.Disk.{Calls}
+use Rattle.store_model.specs.Images.{Story}
 
--- what its pages read as
-abbrev pub disk_image : MemDisk → Image
-disk_image disk = image_of disk.calls.items
+-- its time, what its pages read as, and which images a crash may leave
+abbrev pub disk_story : MemDisk → Story
+disk_story disk = story_of disk.start.items disk.calls.items
+
+-- what its first calls made of what it began with
+abbrev pub replay_at : MemDisk → ℕ → Replay
+replay_at disk moment = replay_calls (settled (image_of disk.start.items)) (take moment disk.calls.items)
 
 -- the calls that it took
 abbrev pub disk_calls : MemDisk → Calls

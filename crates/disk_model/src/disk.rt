@@ -1,8 +1,9 @@
 // The trait of disks.
 
 ghost use Rattle.std.specs.Prelude.{◌≡◌, ℕ, ◌<◌, ◌≤◌, Bool, IsTrue, OnOk, IfErr};
-ghost use Rattle.blob_base.specs.Faults.{HasCause, OnMade, OnNoMemory};
-ghost use Rattle.store_model.specs.Disk.{Image, Calls, SameOff, with_page, with_read, with_write, with_sync};
+ghost use Rattle.blob_base.specs.Faults.{HasCause, OnMade, OnFailed, OnNoMemory};
+ghost use Rattle.store_model.specs.Disk.{Calls, with_page, with_read, with_write, with_sync};
+ghost use Rattle.store_model.specs.Images.{Story, Settled, MayTear, MayStill, Stayed, Unchanged, Wrote, time_of};
 
 use blob_base::IoFault;
 
@@ -14,15 +15,19 @@ pub type Page = [u8; PAGE_BYTES];
 
 /// A disk of pages. It counts its faults, and the count never falls; a call answers `Failed` only where the count rose
 /// in it. A frugal disk never answers `OutOfMemory`, and a call that does has changed nothing.
+///
+/// Between two syncs that answer Ok a crash may leave any bytes on each page that was written, or whose write failed,
+/// and leaves the others as they are. After a sync that answers Ok it leaves what the disk reads as, and after a failed
+/// one the same images as before it.
 pub trait Disk {
-    /// Whether it tells what its pages read as, and its calls.
+    /// Whether it tells its story and its calls.
     ghost tells: { Bool };
 
     /// How many pages it has.
     ghost size: { Self → ℕ };
 
-    /// What its pages read as.
-    ghost reads: { Self → Image };
+    /// Its time, what its pages read as, and which images a crash may leave.
+    ghost story: { Self → Story };
 
     /// The calls that it took.
     ghost calls: { Self → Calls };
@@ -40,10 +45,13 @@ pub trait Disk {
     /// Reads a page.
     fn read(&mut self, page: u32, into: &mut Page) -> Result<(), IoFault>
         requires { page < size self.old }
-        ensures bytes { IsTrue tells → OnOk result (into.new ≡ reads self.old page) }
-        ensures pages { IsTrue tells → reads self.new ≡ reads self.old }
+        ensures bytes { IsTrue tells → OnOk result (into.new ≡ (story self.old).reads page) }
+        ensures images { IsTrue tells → Stayed (story self.old) (story self.new) }
+        ensures still { IsTrue tells → OnMade result (MayStill (story self.old) (story self.new)) }
         ensures calls { IsTrue tells → OnMade result (calls self.new ≡ with_read (calls self.old)) }
-        ensures unmade { IsTrue tells → OnNoMemory result (calls self.new ≡ calls self.old) }
+        ensures time { IsTrue tells → (story self.new).time ≡ time_of (calls self.new) }
+        ensures unmade { IsTrue tells
+            → OnNoMemory result ((calls self.new ≡ calls self.old) × Unchanged (story self.old) (story self.new)) }
         ensures size { size self.new ≡ size self.old }
         ensures faults { faults self.old ≤ faults self.new }
         ensures cause { IfErr result (λ e. HasCause e (faults self.old) (faults self.new) (frugal self.old)) }
@@ -52,11 +60,14 @@ pub trait Disk {
     /// Writes a page. Where it failed, the page may read as any bytes.
     fn write(&mut self, page: u32, from: &Page) -> Result<(), IoFault>
         requires { page < size self.old }
-        ensures bytes { IsTrue tells → OnOk result (reads self.new ≡ with_page (reads self.old) page from.now) }
-        ensures others { IsTrue tells → SameOff (λ p. p ≡ page) (reads self.old) (reads self.new) }
+        ensures bytes { IsTrue tells
+            → OnOk result ((story self.new).reads ≡ with_page (story self.old).reads page from.now) }
+        ensures images { IsTrue tells → Wrote (λ p. p ≡ page) (story self.old) (story self.new) }
+        ensures torn { IsTrue tells → OnMade result (MayTear page (story self.old) (story self.new)) }
         ensures calls { IsTrue tells → OnMade result (calls self.new ≡ with_write (calls self.old)) }
+        ensures time { IsTrue tells → (story self.new).time ≡ time_of (calls self.new) }
         ensures unmade { IsTrue tells
-            → OnNoMemory result ((calls self.new ≡ calls self.old) × (reads self.new ≡ reads self.old)) }
+            → OnNoMemory result ((calls self.new ≡ calls self.old) × Unchanged (story self.old) (story self.new)) }
         ensures size { size self.new ≡ size self.old }
         ensures faults { faults self.old ≤ faults self.new }
         ensures cause { IfErr result (λ e. HasCause e (faults self.old) (faults self.new) (frugal self.old)) }
@@ -64,9 +75,13 @@ pub trait Disk {
 
     /// Makes the writes so far last.
     fn sync(&mut self) -> Result<(), IoFault>
-        ensures pages { IsTrue tells → reads self.new ≡ reads self.old }
+        ensures images { IsTrue tells → Stayed (story self.old) (story self.new) }
+        ensures failed { IsTrue tells → OnFailed result (MayStill (story self.old) (story self.new)) }
+        ensures settled { IsTrue tells → OnOk result (Settled (story self.new)) }
         ensures calls { IsTrue tells → OnMade result (calls self.new ≡ with_sync (calls self.old)) }
-        ensures unmade { IsTrue tells → OnNoMemory result (calls self.new ≡ calls self.old) }
+        ensures time { IsTrue tells → (story self.new).time ≡ time_of (calls self.new) }
+        ensures unmade { IsTrue tells
+            → OnNoMemory result ((calls self.new ≡ calls self.old) × Unchanged (story self.old) (story self.new)) }
         ensures size { size self.new ≡ size self.old }
         ensures faults { faults self.old ≤ faults self.new }
         ensures cause { IfErr result (λ e. HasCause e (faults self.old) (faults self.new) (frugal self.old)) }

@@ -1,4 +1,7 @@
+pub mod ImageLaws
 pub mod HashLaws
 pub mod ShapeLaws
 pub mod StateLaws
+pub mod FieldLaws
 pub mod TupleLaws
+pub mod TupleFieldLaws

@@ -46,7 +46,7 @@ marks-same : (a b : List ℕ) → IsMark a → IsMark b → bytes_of_state a ≡
 marks-same a b one other same = words-same a b (one.eight ∙ sym other.eight) one.words other.words same
 
 -- heads that are numbers of four bytes
-abbrev HeadsFit : List Extent → Type 0
+abbrev pub HeadsFit : List Extent → Type 0
 HeadsFit extents = (i : ℕ) (extent : Extent) → slice_get extents i ≡ Some extent → extent.head < 2 ^ 32
 
 -- an extent is its head and its mark
@@ -93,7 +93,7 @@ tail-same size (Some p) (Some q) x y one other low less same =
     (ap Some (four-same p q low less both.0), both.1)
 
 -- how many extents a size has
-count-same : (size m n : ℕ) → HasExtents size m → HasExtents size n → m ≡ n
+pub count-same : (size m n : ℕ) → HasExtents size m → HasExtents size n → m ≡ n
 count-same size m n one other =
     omega (arith, extents-HasShape size n _ one other.held, extents-HasShape size m _ other one.held)
 
@@ -131,7 +131,7 @@ fields-same s t x y one other same =
     )
 
 -- heads are numbers of four bytes where there are at most so many pages
-heads-fit : (pages : ℕ) (key : List ℕ) (s : State) → pages ≤ 2 ^ 32 → IsTuple pages key s → HeadsFit s.extents
+pub heads-fit : (pages : ℕ) (key : List ℕ) (s : State) → pages ≤ 2 ^ 32 → IsTuple pages key s → HeadsFit s.extents
 heads-fit pages key s most tuple i extent is =
     let pos : 0 < pages_of_extent i = pow_pos (tier_of i) in
     omega (arith, tuple.extents i extent is, pos)

@@ -10,10 +10,12 @@ pub mod Script
 pub mod Play
 pub mod Layout
 pub mod Disk
+pub mod Images
 pub mod Form
 pub mod Closing
 pub mod State
 pub mod Tuple
 pub mod Holds
+pub mod Space
 pub mod Field
 pub mod TupleFields

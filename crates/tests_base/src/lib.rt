@@ -16,4 +16,8 @@ mod lists;
 #[cfg(test)]
 mod shape;
 #[cfg(test)]
+mod space;
+#[cfg(test)]
 mod states;
+#[cfg(test)]
+mod tuples;

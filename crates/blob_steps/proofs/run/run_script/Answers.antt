@@ -5,7 +5,7 @@ use Rattle.blob_steps.proofs.run.run_script.Goals as goal
 
 pub loop-number-init : goal.loop-number-init
 loop-number-init g c = (
-  λ tells script known. Going-first (g.D.Disk.reads c.args.disk.now) c.new-run.result.world _ (g.K.Sink.taken c.args.sink.now) script (c.new-run.ensures.stands (g.D.Disk.reads c.args.disk.now))
+  λ tells script known. Going-first (g.D.Disk.story c.args.disk.now).reads c.new-run.result.world _ (g.K.Sink.taken c.args.sink.now) script (c.new-run.ensures.stands (g.D.Disk.story c.args.disk.now).reads)
       (ap (λ reader. prepend_known reader (g.S.Source.left c.args.source.now)) c.new-run.ensures.reader ∙ ap (prepend_known []) known),
   record {
     layout_is = c.new-run.ensures.layout;
@@ -21,7 +21,7 @@ loop-number-preserved g c =
     let kept = c.loop-number.invariant.1 in
     let done = c.in_ok-answer_line.ensures in (
       λ tells script known.
-          let next = done.going tells (g.D.Disk.reads c.args.disk.now) (g.K.Sink.taken c.args.sink.now) _ (c.loop-number.invariant.0 tells script known) in
+          let next = done.going tells (g.D.Disk.story c.args.disk.now).reads (g.K.Sink.taken c.args.sink.now) _ (c.loop-number.invariant.0 tells script known) in
           rw c.if-not-branch.false at next,
       record {
         layout_is = done.layout ∙ kept.layout_is;

@@ -20,7 +20,7 @@ invariant-loop-number g l =
     let source = g.S.Source in
     let sink = g.K.Sink in
     (IsTrue disk.tells → (script : List ℕ) → source.left l.fn.source ≡ Some script
-    → Going (disk.reads l.fn.disk) (disk.reads l.disk) l.run.world l.number (prepend_known l.run.reader (source.left l.source)) (sink.taken l.fn.sink) (sink.taken l.sink) (play script))
+    → Going (disk.story l.fn.disk).reads (disk.story l.disk).reads l.run.world l.number (prepend_known l.run.reader (source.left l.source)) (sink.taken l.fn.sink) (sink.taken l.sink) (play script))
     × Kept l.run.world.store.layout l.fn.layout (weight l.run.world) l.number (disk.size l.fn.disk) (disk.size l.disk)
     (record { source = source.faults l.fn.source; sink = sink.faults l.fn.sink; disk = disk.faults l.fn.disk })
     (record { source = source.faults l.source; sink = sink.faults l.sink; disk = disk.faults l.disk })

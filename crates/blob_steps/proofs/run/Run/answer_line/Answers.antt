@@ -14,9 +14,9 @@ returns-in_ok-print-in-Some-clause-going g c = λ tells base taken whole going.
     let left = prepend_known c.args.self.now.reader (g.S.Source.left c.args.source.now) in
     let takes = subst (λ (rest : Option (List ℕ)). TakesStep c.args.number left rest (model_step c.in-Some.step))
     (sym (ap (λ reader. prepend_known reader (g.S.Source.left c.read_step.new.source)) c.in_ok-do_step-in-Some.ensures.reader)) read.1 in
-    Going-next base _ (disk.reads c.do_step.new.disk) c.args.self.now.world c.do_step.new.self.world c.args.number left _ taken (g.K.Sink.taken c.args.sink.now) (g.K.Sink.taken c.print.new.sink) whole
+    Going-next base _ (disk.story c.do_step.new.disk).reads c.args.self.now.world c.do_step.new.self.world c.args.number left _ taken (g.K.Sink.taken c.args.sink.now) (g.K.Sink.taken c.print.new.sink) whole
     (model_step c.in-Some.step) c.do_step.new.self.text going takes
-    (λ world stands. c.in_ok-do_step-in-Some.ensures.step tells base world (subst (λ mine. Stands base (disk.reads c.args.disk.now) mine world) (sym c.in_ok-step.ensures.world) stands))
+    (λ world stands. c.in_ok-do_step-in-Some.ensures.step tells base world (subst (λ mine. Stands base (disk.story c.args.disk.now).reads mine world) (sym c.in_ok-step.ensures.world) stands))
     (subst (Appends (g.K.Sink.taken c.args.sink.now) (g.K.Sink.taken c.print.new.sink)) c.as_slice.ensures c.in_ok-print-in-Some.ensures.ok)
 
 pub returns-in_err-print-in-Some-clause-going : goal.returns-in_err-print-in-Some-clause-going
@@ -26,8 +26,8 @@ returns-in_err-print-in-Some-clause-going g c = λ tells base taken whole going.
     let left = prepend_known c.args.self.now.reader (g.S.Source.left c.args.source.now) in
     let p = err_from_is_err_and c.from_residual-in_err-print-in-Some.result c.from_residual-in_err-print-in-Some.ensures.1 in
     let front = c.in_err-print-in-Some.ensures.front in
-    rw (p.1, p.2) (Ended-printing c.in_err-print-in-Some.field-0.0 base _ (disk.reads c.do_step.new.disk) c.args.self.now.world c.do_step.new.self.world _ c.args.number left _ taken (g.K.Sink.taken c.args.sink.now) (g.K.Sink.taken c.print.new.sink) whole
+    rw (p.1, p.2) (Ended-printing c.in_err-print-in-Some.field-0.0 base _ (disk.story c.do_step.new.disk).reads c.args.self.now.world c.do_step.new.self.world _ c.args.number left _ taken (g.K.Sink.taken c.args.sink.now) (g.K.Sink.taken c.print.new.sink) whole
     (g.K.Sink.frugal c.args.sink.now) _ _
     (model_step c.in-Some.step) c.do_step.new.self.text front.0 going read.1
-    (λ world stands. c.in_ok-do_step-in-Some.ensures.step tells base world (subst (λ mine. Stands base (disk.reads c.args.disk.now) mine world) (sym c.in_ok-step.ensures.world) stands))
+    (λ world stands. c.in_ok-do_step-in-Some.ensures.step tells base world (subst (λ mine. Stands base (disk.story c.args.disk.now).reads mine world) (sym c.in_ok-step.ensures.world) stands))
     (subst (λ text. Appends (g.K.Sink.taken c.args.sink.now) (g.K.Sink.taken c.print.new.sink) (take front.0 text)) c.as_slice.ensures front.1) c.in_err-print-in-Some.ensures.ends)

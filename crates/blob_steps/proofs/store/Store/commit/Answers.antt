@@ -17,12 +17,12 @@ loop-key-preserved g c =
     let kept = so_far.1 in
     let set = c.in_ok-set.ensures in
     let content = content_of c.in-Some.change in (
-      Committing-next disk.tells (data_page c.args.self.now.layout) (c.args.self.now.last + 1) _ _ (disk.reads c.set.new.disk) _ _ c.set.new.self.objects _ _ (map.entries c.pop_first.new.self)
+      Committing-next disk.tells (data_page c.args.self.now.layout) (c.args.self.now.last + 1) _ _ (disk.story c.set.new.disk).reads _ _ c.set.new.self.objects _ _ (map.entries c.pop_first.new.self)
           (c.in-Some.key, c.in-Some.change) _ _ c.set.new.self.poured so_far.0
           c.in-Some.ensures.first set.poured
-          (λ tells. set.pages tells ∙ ap (λ layout. with_pages (disk.reads c.loop-key.disk) (data_page layout + c.loop-key.self.poured) (pages_of (content ∷ []))) kept.layout)
-          (λ tells. subst (λ (layout : Layout). (model : map.FinMap key_order Object) → SameObjects (disk.reads c.loop-key.disk) (data_page layout) c.loop-key.self.objects model
-          → SameObjects (disk.reads c.set.new.disk) (data_page layout) c.set.new.self.objects
+          (λ tells. set.pages tells ∙ ap (λ layout. with_pages (disk.story c.loop-key.disk).reads (data_page layout + c.loop-key.self.poured) (pages_of (content ∷ []))) kept.layout)
+          (λ tells. subst (λ (layout : Layout). (model : map.FinMap key_order Object) → SameObjects (disk.story c.loop-key.disk).reads (data_page layout) c.loop-key.self.objects model
+          → SameObjects (disk.story c.set.new.disk).reads (data_page layout) c.set.new.self.objects
           (map.insert model c.in-Some.key (record { content = content; number = c.args.self.now.last + 1; place = tail_place c.loop-key.self.poured content })))
           kept.layout (set.objects tells)),
       record {

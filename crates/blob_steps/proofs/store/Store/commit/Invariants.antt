@@ -16,7 +16,7 @@ pub record Unchanged (old_layout new_layout : Layout) (old_last new_last old_siz
 abbrev pub invariant-loop-key : goal.invariant-loop-key
 invariant-loop-key g l =
     let disk = g.D.Disk in
-    Committing disk.tells (data_page l.fn.self.layout) (l.fn.self.last + 1) (disk.reads l.fn.disk) (disk.reads l.disk) l.fn.self.objects l.self.objects
+    Committing disk.tells (data_page l.fn.self.layout) (l.fn.self.last + 1) (disk.story l.fn.disk).reads (disk.story l.disk).reads l.fn.self.objects l.self.objects
     (map.entries l.fn.changes) (map.entries l.changes) l.fn.self.poured l.self.poured
     × Unchanged l.fn.self.layout l.self.layout l.fn.self.last l.self.last (disk.size l.fn.disk) (disk.size l.disk) (disk.faults l.fn.disk) (disk.faults l.disk) (disk.frugal l.fn.disk) (disk.frugal l.disk)
     l.fn.self.poured l.self.poured (map.len l.fn.changes) (map.len l.changes)

@@ -28,8 +28,8 @@ returns-clause-objects g c = λ tells objects same.
     let state_is = c.in-Ok.ensures.ok in
     SameObjects-became _ _ (data_page c.args.self.now.layout) c.args.self.now.poured _ _ objects c.args.key content c.args.number c.in-Ok.state.value
     (c.in_ok-pour.ensures.bytes tells
-    ∙ ap (λ first. with_pages (g.D.Disk.reads c.args.disk.now) (first + c.args.self.now.poured) (pages_of (c.as_slice-content.result.now ∷ []))) c.data.ensures.page
-    ∙ ap (λ bytes. with_pages (g.D.Disk.reads c.args.disk.now) (data_page c.args.self.now.layout + c.args.self.now.poured) (pages_of (bytes ∷ []))) content_is)
+    ∙ ap (λ first. with_pages (g.D.Disk.story c.args.disk.now).reads (first + c.args.self.now.poured) (pages_of (c.as_slice-content.result.now ∷ []))) c.data.ensures.page
+    ∙ ap (λ bytes. with_pages (g.D.Disk.story c.args.disk.now).reads (data_page c.args.self.now.layout + c.args.self.now.poured) (pages_of (bytes ∷ []))) content_is)
     c.in_ok-insert.ensures.ok c.args.self.now.small
     (subst (λ change. length (content_of change) ≤ 4095) c.change.view_is c.change.invariant.small)
     (ap (λ (s : State). s.born) state_is ∙ c.place.ensures.number)

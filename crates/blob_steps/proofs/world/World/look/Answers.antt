@@ -23,7 +23,7 @@ returns-in-Stored-clause-turn g c = λ tells base world is.
     let turned = IsWorld-turn base _ _ _ _ _ _ _ world (look_action c.args.look key) (show_of c.args.look (content_at world.store key)) is
     (got ∙ ap (λ l. record { line = l; session = model_session c.look.new.self }) (ap (got_line c.args.look world.store key) c.in-Stored.is)) in
     IfOk-weaker c.show.result (λ line. model_line line ≡ show_of c.args.look (option_map (λ object. object.content) (get world.store.objects key)))
-    (λ line. IsTurn base (g.D.Disk.reads c.show.new.disk) world (look_action c.args.look key) (model_line line) (record { store = c.args.self.now.store; session = c.look.new.self }))
+    (λ line. IsTurn base (g.D.Disk.story c.show.new.disk).reads world (look_action c.args.look key) (model_line line) (record { store = c.args.self.now.store; session = c.look.new.self }))
     (λ line shows. record {
       line_is = shows ∙ turned.0;
       stands = IsWorld-same base _ _ _ _ _ _ _ _ (c.show.ensures.pages tells) turned.1;

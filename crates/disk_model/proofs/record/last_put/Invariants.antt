@@ -1,10 +1,10 @@
 use Rattle.std.proofs.Common.{◌≡◌, ◌≤◌, length, take}
 use Rattle.disk_model.specs.Calls.{image_of}
-use Rattle.disk_model.proofs.memory.last_written.Given as goal
+use Rattle.disk_model.proofs.record.last_put.Given as goal
 
--- the calls behind this place didn't write the page
+-- nothing behind this place was put on the page
 abbrev pub invariant-loop-rest : goal.invariant-loop-rest
-invariant-loop-rest l = (l.rest ≤ length l.calls) × (image_of l.calls l.page ≡ image_of (take l.rest l.calls) l.page)
+invariant-loop-rest l = (l.rest ≤ length l.writes) × (image_of l.writes l.page ≡ image_of (take l.rest l.writes) l.page)
 
 abbrev pub decreases-loop-rest : goal.decreases-loop-rest
 decreases-loop-rest l = l.rest

@@ -1,0 +1,4 @@
+pub mod Rounding
+pub mod Orders
+pub mod Scans
+pub mod Spaces
