@@ -85,7 +85,8 @@ impl BlobState {
 
     /// Its extents in order.
     pub fn extents(&self) -> &[Extent]
-        ensures { extents_of result.now ≡ self.now.extents }
+        ensures value { extents_of result.now ≡ self.now.extents }
+        ensures most { length result.now ≤ 127 }
     {
         self.extents.as_slice()
     }

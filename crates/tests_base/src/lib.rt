@@ -14,6 +14,8 @@ mod keys;
 #[cfg(test)]
 mod lists;
 #[cfg(test)]
+mod relation;
+#[cfg(test)]
 mod shape;
 #[cfg(test)]
 mod space;

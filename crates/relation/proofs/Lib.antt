@@ -1,0 +1,4 @@
+pub mod Sorted
+pub mod Searches
+pub mod Relations
+pub mod Blocks

@@ -1,0 +1,7 @@
+//! The objects of a store: a map from keys to states, which stay where they are in memory.
+#![tactic(auto)]
+
+mod entries;
+mod relation;
+
+pub use relation::Relation;

@@ -1,0 +1,210 @@
+// The relation of a store.
+
+ghost use Rattle.std.specs.Prelude.{◌≡◌, ◌+◌, ◌-◌, ◌<◌, ◌≤◌, ◌⊎◌, Some, IsTrue, if◌then◌else◌, slice_get, option_copied, vec_len, vec_capacity, length, IfOk, OnOk, OnErr};
+ghost use Rattle.std.specs.Prelude.{◌++◌, ◌==◌};
+ghost use Rattle.std.specs.FinMap as map;
+ghost use Rattle.store_model.specs.Space.{tail_blocks};
+ghost use Rattle.store_model.specs.State.{heads_of};
+ghost use Rattle.blob_state.specs.Values.{extents_of};
+ghost use Rattle.relation.specs.Parts.{blocks_by, extent_blocks, owned_by};
+ghost use Rattle.relation.specs.Entries.{entries_of};
+
+use crate::entries::{Entry, search};
+use arrayvec::ArrayVec;
+use blob_base::{Key, OutOfMemory, Owned};
+use blob_state::{BlobState, Draft, Extent};
+use std::alloc::Global;
+use std::marker::Model;
+use std::mem;
+use tier_table::tier;
+
+/// States by their keys. `spare` more keys can be set without taking memory, and a state that is set stays where it is
+/// until it is removed.
+#[derive(Drop)]
+pub struct Relation {
+    // In the order of their keys.
+    entries: Vec<Entry>,
+    // Places for states, which have no meaning yet; there are at least as many as are spare.
+    free: Vec<Box<BlobState>>,
+    spare: usize,
+}
+
+impl Model for Relation {
+    ghost use Rattle.relation.specs.Parts.{Parts, parts_of, parts_code, IsSound};
+
+    ghost Value = { Parts };
+
+    ghost coded = { parts_code };
+
+    ghost view = { parts_of };
+
+    ghost invariant = { IsSound };
+}
+
+// A state for a place that has none yet.
+fn blank() -> BlobState {
+    match Draft::put(&[]) {
+        Ok(draft) => draft.place(&ArrayVec::new(), None, 1),
+        Err(_) => unreachable!(),
+    }
+}
+
+// Adds free places until there are `n`.
+fn fill(alloc: Global, free: &mut Vec<Box<BlobState>>, n: usize) -> Result<(), OutOfMemory>
+    requires { n ≤ vec_capacity free.old }
+    ensures filled { OnOk result (n ≤ vec_len free.new) }
+    ensures most { (vec_len free.new ≤ n) ⊎ (vec_len free.new ≡ vec_len free.old) }
+    ensures more { vec_len free.old ≤ vec_len free.new }
+    ensures capacity { vec_capacity free.old ≤ vec_capacity free.new }
+{
+    'filled: while free.len() < n {
+        let Ok(place) = Box::new(alloc, blank()) else {
+            return Err(OutOfMemory);
+        };
+        let _ = free.push(place);
+    }
+    Ok(())
+}
+
+impl Relation {
+    /// A relation without keys, which takes no memory.
+    pub fn new(alloc: Global) -> Relation
+        ensures states { result.states ≡ map.empty }
+        ensures spare { result.spare ≡ 0 }
+    {
+        Relation {
+            entries: Vec::new(alloc),
+            free: Vec::new(alloc),
+            spare: 0,
+        }
+    }
+
+    /// How many keys it has.
+    pub fn len(&self) -> usize
+        ensures { result ≡ map.len self.now.states }
+    {
+        self.entries.len()
+    }
+
+    /// Whether it has none.
+    pub fn is_empty(&self) -> bool
+        ensures { result ≡ (map.len self.now.states == 0) }
+    {
+        self.entries.len() == 0
+    }
+
+    /// The state of a key.
+    pub fn get(&self, key: &Key) -> Option<&BlobState>
+        ensures { option_copied result ≡ map.get self.now.states key.now }
+    {
+        match search(&self.entries, key) {
+            Ok(at) => Some(&self.entries[at].state),
+            Err(_) => None,
+        }
+    }
+
+    /// The key and the state at this index, in the order of the keys.
+    pub fn nth(&self, i: usize) -> (&Key, &BlobState)
+        requires { i < map.len self.now.states }
+        ensures { slice_get (map.entries self.now.states) i ≡ Some (result.0.now, result.1.now) }
+    {
+        let entry = &self.entries[i];
+        (&entry.key, &entry.state)
+    }
+
+    /// Makes `spare` at least `n`.
+    pub fn reserve(&mut self, alloc: Global, n: usize) -> Result<(), OutOfMemory>
+        ensures spare { OnOk result (n ≤ self.new.spare) }
+        ensures more { self.old.spare ≤ self.new.spare }
+        ensures states { self.new.states ≡ self.old.states }
+        ensures err { OnErr result (self.new ≡ self.old) }
+    {
+        if n <= self.spare {
+            return Ok(());
+        }
+        self.entries.reserve(n)?;
+        self.free.reserve(self.entries.len().saturating_add(n))?;
+        fill(alloc, &mut self.free, n)?;
+        self.spare = n;
+        Ok(())
+    }
+
+    /// Sets the state of a key. Where the key isn't there, this takes a spare place.
+    pub fn set(&mut self, key: Key, state: BlobState)
+        requires { IsTrue (map.contains_key self.old.states key) ⊎ (1 ≤ self.old.spare) }
+        ensures states { self.new.states ≡ map.insert self.old.states key state }
+        ensures spare { self.new.spare ≡ (if map.contains_key self.old.states key then self.old.spare else self.old.spare - 1) }
+    {
+        match search(&self.entries, &key) {
+            Ok(at) => *self.entries[at].state = state,
+            Err(at) => {
+                let Some(mut place) = self.free.pop() else {
+                    unreachable!()
+                };
+                *place = state;
+                // There is room for it, since a place was spare.
+                let _ = self.entries.insert(at, Entry { key, state: place });
+                self.spare -= 1;
+            }
+        }
+    }
+
+    /// Takes a key's state out.
+    pub fn remove(&mut self, key: &Key) -> Option<BlobState>
+        ensures state { result ≡ map.get self.old.states key.now }
+        ensures states { self.new.states ≡ map.remove self.old.states key.now }
+        ensures spare { self.new.spare ≡ self.old.spare }
+    {
+        match search(&self.entries, key) {
+            Ok(at) => {
+                let mut place = self.entries.remove(at).state;
+                let state = mem::replace(&mut *place, blank());
+                // There is room for it, since its entry had room.
+                let _ = self.free.push(place);
+                Some(state)
+            }
+            Err(_) => None,
+        }
+    }
+
+    /// Head and tier of every extent, and of every tail's page as tier 0, in the order of the keys.
+    pub fn owned(&self, alloc: Global) -> Result<Owned, OutOfMemory>
+        ensures { IfOk result (λ owned. owned ≡ owned_by self.now.states) }
+    {
+        blocks_by(alloc, &self.entries)
+    }
+}
+
+// Head and tier of every extent and tail of these entries.
+fn blocks_by(alloc: Global, entries: &[Entry]) -> Result<Owned, OutOfMemory>
+    ensures { IfOk result (λ owned. owned ≡ blocks_by (entries_of entries.now)) }
+{
+    let mut owned = Owned::new(alloc);
+    'listed: for i in 0..entries.len() {
+        let state = &entries[i].state;
+        add_extents(alloc, state.extents(), &mut owned)?;
+        add_tail(alloc, state.tail(), &mut owned)?;
+    }
+    Ok(owned)
+}
+
+// Adds the heads of extents, each with its tier.
+fn add_extents(alloc: Global, extents: &[Extent], owned: &mut Owned) -> Result<(), OutOfMemory>
+    requires { length extents.now ≤ 127 }
+    ensures { OnOk result (owned.new ≡ owned.old ++ extent_blocks (heads_of (extents_of extents.now))) }
+{
+    'added: for i in 0..extents.len() {
+        owned.push(alloc, (extents[i].head, tier(i as u32)))?;
+    }
+    Ok(())
+}
+
+// Adds a tail's page.
+fn add_tail(alloc: Global, tail: Option<u32>, owned: &mut Owned) -> Result<(), OutOfMemory>
+    ensures { OnOk result (owned.new ≡ owned.old ++ tail_blocks tail) }
+{
+    match tail {
+        Some(page) => owned.push(alloc, (page, 0)),
+        None => Ok(()),
+    }
+}
