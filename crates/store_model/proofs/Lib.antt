@@ -1,6 +1,7 @@
 pub mod ImageLaws
 pub mod HashLaws
 pub mod ShapeLaws
+pub mod PlaceLaws
 pub mod StateLaws
 pub mod FieldLaws
 pub mod TupleLaws

@@ -1,6 +1,7 @@
 -- What the data area holds of a content: where its pages stand, and that they read as it.
-use Rattle.std.specs.Prelude.{ℕ, ◌+◌, ◌*◌, ◌/◌, ◌%◌, ◌<◌, ◌≡◌, List, length, take, drop, slice_get, Some}
-use Rattle.store_model.specs.Disk.{Image, page_bytes}
+use Rattle.std.specs.Prelude.{ℕ, ◌+◌, ◌-◌, ◌*◌, ◌/◌, ◌%◌, ◌<◌, ◌≤◌, ◌≡◌, ◌⊎◌, min, nat_lt, if◌then◌else◌, List, length, take, drop, slice_get, Some}
+use Rattle.store_model.specs.Disk.{Calls, Image, page_bytes}
+use Rattle.store_model.specs.Layout.{Layout, data_page}
 use Rattle.store_model.specs.Shape.{LiesAt}
 use Rattle.store_model.specs.State.{State, heads_of}
 use Rattle.store_model.specs.Store.{Place}
@@ -32,3 +33,41 @@ rest_of content = drop (page_bytes * (length content / page_bytes)) content
 pub record Holds (image : Image) (first : ℕ) (place : Place) (content : List ℕ) : Type 0 where
   pub full : (page at : ℕ) → page < length content / page_bytes → StandsAt place page at → image (first + at) ≡ full_page content page
   pub tail : (page : ℕ) → place.tail ≡ Some page → take (length content % page_bytes) (image (first + page)) ≡ rest_of content
+
+-- each full page of a content below number n reads as it from where it stands
+abbrev pub HoldsFront : ℕ → Image → ℕ → Place → List ℕ → Type 0
+HoldsFront n image first place content = (page at : ℕ) → page < n → StandsAt place page at → image (first + at) ≡ full_page content page
+
+-- page p of a disk is where one of the full pages from number `from` up to `to` stands
+pub record IsFullPage (first : ℕ) (place : Place) (from to p : ℕ) : Type 0 where
+  pub page : ℕ
+  pub least : from ≤ page
+  pub below : page < to
+  pub at : ℕ
+  pub stands : StandsAt place page at
+  pub is : p ≡ first + at
+
+-- page p of a disk is the tail page of a place
+pub record IsTailPage (first : ℕ) (place : Place) (p : ℕ) : Type 0 where
+  pub at : ℕ
+  pub tail : place.tail ≡ Some at
+  pub is : p ≡ first + at
+
+-- page p is one of those of a state's content: one of its full pages from number `from` on, or its tail page
+abbrev pub IsPoured : Layout → State → ℕ → ℕ → Type 0
+IsPoured layout state from p =
+    IsFullPage (data_page layout) (place_of state) from (state.size / page_bytes) p ⊎ IsTailPage (data_page layout) (place_of state) p
+
+-- how many pages a content of this size has from full page number `from` on, its tail page too
+abbrev pub pages_from : ℕ → ℕ → ℕ
+pages_from size from = size / page_bytes - from + min 1 (size % page_bytes)
+
+-- a disk has taken so many more reads and writes, and no sync
+pub record Took (more_reads more_writes : ℕ) (old new : Calls) : Type 0 where
+  pub reads : new.reads ≡ old.reads + more_reads
+  pub writes : new.writes ≡ old.writes + more_writes
+  pub syncs : new.syncs ≡ old.syncs
+
+-- how many pages the bytes from `off` on lie in, so many of them
+abbrev pub pages_across : ℕ → ℕ → ℕ
+pages_across off count = if nat_lt 0 count then (off + count - 1) / page_bytes + 1 - off / page_bytes else 0

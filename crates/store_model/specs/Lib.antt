@@ -17,5 +17,6 @@ pub mod State
 pub mod Tuple
 pub mod Holds
 pub mod Space
+pub mod Verify
 pub mod Field
 pub mod TupleFields

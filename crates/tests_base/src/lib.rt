@@ -6,6 +6,8 @@ mod disks;
 #[cfg(test)]
 mod ends;
 #[cfg(test)]
+mod extents;
+#[cfg(test)]
 mod file;
 #[cfg(test)]
 mod hash;

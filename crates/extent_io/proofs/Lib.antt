@@ -1,0 +1,4 @@
+pub mod Stands
+pub mod Pourings
+pub mod Gatherings
+pub mod Verifyings

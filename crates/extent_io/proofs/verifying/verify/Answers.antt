@@ -1,0 +1,41 @@
+use Rattle.std.proofs.Common.{◌≡◌, ◌∙◌, refl, arith, le_refl}
+use Rattle.store_model.specs.Layout.{data_page}
+use Rattle.extent_io.proofs.Verifyings.{Verifying-fails, Verifying-next, Verifying-none, fails-as, took-all, took-no_link, told-other, told-same, took-link}
+use Rattle.extent_io.proofs.verifying.verify.Goals as goal
+
+pub returns-then-ne-clause-damaged : goal.returns-then-ne-clause-damaged
+returns-then-ne-clause-damaged g c tells link want got is =
+    let disk = g.D.Disk in
+    let number : c.loop-link.link ≡ link = cc is in
+    let value : c.kept_value-want.result ≡ want = cc is in
+    let other : c.in_ok-got.got ≡ got = cc is in
+    fails-as (disk.story c.args.disk.now).reads (data_page c.args.layout) c.args.state.now c.loop-link.link link c.kept_value-want.result want c.in_ok-got.got got
+    (Verifying-fails disk.tells (data_page c.args.layout) c.args.state.now c.loop-link.link (disk.story c.args.disk.now) (disk.story c.loop-link.disk)
+    c.kept_value-want.result c.in_ok-got.got tells (omega (arith, c.last_link-last.ensures.value)) c.kept_value-want.ensures
+    (told-other c.kept_value-want.result c.in_ok-got.got c.ne.result c.if-ne.true c.ne.ensures) c.loop-link.invariant.0 (c.in_ok-got.ensures.value tells))
+    number value other
+
+pub loop-link-preserved : goal.loop-link-preserved
+loop-link-preserved g c =
+    let disk = g.D.Disk in
+    let kept = c.loop-link.invariant.1 in (
+      Verifying-next disk.tells (data_page c.args.layout) c.args.state.now c.loop-link.link (disk.story c.args.disk.now) (disk.story c.loop-link.disk) (disk.story c.computed_value.new.disk)
+          c.kept_value-want.result c.in_ok-got.got c.kept_value-want.ensures (told-same c.kept_value-want.result c.in_ok-got.got c.ne.result c.if-ne.false c.ne.ensures)
+          c.loop-link.invariant.0 c.in_ok-got.ensures.value c.computed_value.ensures.images,
+      record { size = c.computed_value.ensures.size ∙ kept.size; faults = omega (arith, c.computed_value.ensures.faults, kept.faults); frugal = c.computed_value.ensures.frugal ∙ kept.frugal },
+      λ tells. took-link c.args.state.now c.loop-link.link (disk.calls c.args.disk.now) (disk.calls c.loop-link.disk) (disk.calls c.computed_value.new.disk)
+          c.last_link-last.ensures.rules (omega (arith, c.last_link-last.ensures.value)) (c.loop-link.invariant.2 tells) (c.in_ok-got.ensures.reads tells),
+    )
+
+pub loop-link-init : goal.loop-link-init
+loop-link-init g c =
+    let disk = g.D.Disk in (
+      Verifying-none disk.tells (data_page c.args.layout) c.args.state.now (disk.story c.args.disk.now),
+      record { size = refl; faults = le_refl (disk.faults c.args.disk.now); frugal = refl },
+      λ tells. took-no_link c.args.state.now (disk.calls c.args.disk.now),
+    )
+
+pub returns-clause-reads : goal.returns-clause-reads
+returns-clause-reads g c tells is =
+    let disk = g.D.Disk in
+    took-all c.args.state.now c.loop-link.link (disk.calls c.args.disk.now) (disk.calls c.loop-link.disk) (omega (arith, c.last_link-last.ensures.value)) (c.loop-link.invariant.2 tells)

@@ -1,0 +1,11 @@
+pub mod Pages
+pub use Rattle.blob_base.specs.Faults
+pub use Rattle.store_model.specs.Disk
+pub use Rattle.store_model.specs.Holds
+pub use Rattle.store_model.specs.Images
+pub use Rattle.store_model.specs.Layout
+pub use Rattle.store_model.specs.Shape
+pub use Rattle.store_model.specs.Space
+pub use Rattle.store_model.specs.State
+pub use Rattle.store_model.specs.Hash
+pub use Rattle.store_model.specs.Verify
