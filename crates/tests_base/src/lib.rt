@@ -16,7 +16,7 @@ mod keys;
 #[cfg(test)]
 mod lists;
 #[cfg(test)]
-mod relation;
+mod relations;
 #[cfg(test)]
 mod shape;
 #[cfg(test)]
