@@ -1,4 +1,6 @@
-pub mod Sorted
-pub mod Searches
-pub mod Relations
 pub mod Blocks
+pub mod Copies
+pub mod Encoded
+pub mod Relations
+pub mod Searches
+pub mod Sorted

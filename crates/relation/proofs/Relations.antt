@@ -123,7 +123,7 @@ entries-insert_at kept zero e = refl
 entries-insert_at [] (suc i) e = refl
 entries-insert_at (f ∷ kept) (suc i) e = ap (λ es. entry_of f ∷ es) (entries-insert_at kept i e)
 
-entries-without : (kept : List Entry) (i : ℕ) → entries_of (take i kept ++ drop (suc i) kept) ≡ take i (entries_of kept) ++ drop (suc i) (entries_of kept)
+pub entries-without : (kept : List Entry) (i : ℕ) → entries_of (take i kept ++ drop (suc i) kept) ≡ take i (entries_of kept) ++ drop (suc i) (entries_of kept)
 entries-without [] zero = refl
 entries-without [] (suc i) = refl
 entries-without (f ∷ kept) zero = refl

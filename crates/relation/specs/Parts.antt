@@ -1,5 +1,5 @@
 -- A relation, as contracts see it.
-use Rattle.std.specs.Prelude.{ℕ, ◌+◌, ◌≤◌, List, [], ◌∷◌, Option, refl}
+use Rattle.std.specs.Prelude.{ℕ, ◌+◌, ◌^◌, ◌<◌, ◌≤◌, ◌≡◌, List, [], ◌∷◌, length, Option, refl}
 use Rattle.std.specs.Coded.{Coded, code_by, coded×, coded_list, coded_option, coded_ℕ}
 use Rattle.std.specs.Vec.{vec_capacity, vec_len}
 use Rattle.std.specs.FinMap.{FinMap, code, entries, from_sorted}
@@ -8,7 +8,8 @@ use Rattle.store_model.specs.Holds.{place_of}
 use Rattle.store_model.specs.Space.{Block, blocks_of}
 use Rattle.store_model.specs.State.{Extent, State}
 use Rattle.store_model.specs.Shape.{tier_of}
-use Rattle.std.specs.List.{enumerate_from, flat_map}
+use Rattle.store_model.specs.Tuple.{spelling}
+use Rattle.std.specs.List.{enumerate_from, flat_map, sum_by}
 use Rattle.relation.specs.declared.relation.Relation.TheInside.{Inside}
 use Rattle.relation.specs.Entries.{are_sorted, entries_of}
 
@@ -36,13 +37,19 @@ parts_code =
 abbrev pub parts_of : Inside → Parts
 parts_of r = record { states = from_sorted (entries_of r.entries.items); spare = r.spare }
 
+-- how many bytes states take where they are stored, each with its key
+abbrev pub encoded_bytes : List (List ℕ × State) → ℕ
+encoded_bytes es = sum_by (λ entry. length (spelling entry.0 entry.1)) es
+
 -- the entries stand in the order of their keys, a place is free for each spare one, and there is room for a free place to
--- become an entry and back
+-- become an entry and back, and the bytes are those that the entries take
 pub record IsSound (r : Inside) : Type 0 where
   pub sorted : are_sorted (entries_of r.entries.items)
   pub spare : r.spare ≤ vec_len r.free
   pub room : vec_len r.entries + vec_len r.free ≤ vec_capacity r.entries
   pub back : vec_len r.entries + vec_len r.free ≤ vec_capacity r.free
+  pub bytes : r.bytes ≡ encoded_bytes (entries_of r.entries.items)
+  pub few : r.bytes < 2 ^ 62
 
 -- the blocks of extents with these heads, in order
 abbrev pub extent_blocks : List ℕ → List Block
@@ -55,3 +62,7 @@ blocks_by es = flat_map (λ entry. blocks_of (place_of entry.1)) es
 -- the blocks of all states, in the order of the keys
 abbrev pub owned_by : FinMap key_order State → List Block
 owned_by states = blocks_by (entries states)
+
+-- how many bytes the states of a relation take where they are stored
+abbrev pub encoded_by : FinMap key_order State → ℕ
+encoded_by states = encoded_bytes (entries states)

@@ -1,12 +1,12 @@
 // The relation of a store.
 
 ghost use Rattle.std.specs.Prelude.{◌≡◌, ◌+◌, ◌-◌, ◌<◌, ◌≤◌, ◌⊎◌, Some, IsTrue, if◌then◌else◌, slice_get, option_copied, vec_len, vec_capacity, length, IfOk, OnOk, OnErr};
-ghost use Rattle.std.specs.Prelude.{◌++◌, ◌==◌};
+ghost use Rattle.std.specs.Prelude.{◌++◌, ◌==◌, ◌^◌};
 ghost use Rattle.std.specs.FinMap as map;
 ghost use Rattle.store_model.specs.Space.{tail_blocks};
 ghost use Rattle.store_model.specs.State.{heads_of};
 ghost use Rattle.blob_state.specs.Values.{extents_of};
-ghost use Rattle.relation.specs.Parts.{blocks_by, extent_blocks, owned_by};
+ghost use Rattle.relation.specs.Parts.{blocks_by, encoded_by, extent_blocks, owned_by};
 ghost use Rattle.relation.specs.Entries.{entries_of};
 
 use crate::entries::{Entry, search};
@@ -27,6 +27,8 @@ pub struct Relation {
     // Places for states, which have no meaning yet; there are at least as many as are spare.
     free: Vec<Box<BlobState>>,
     spare: usize,
+    // How many bytes the states take where they are stored.
+    bytes: u64,
 }
 
 impl Model for Relation {
@@ -76,6 +78,7 @@ impl Relation {
             entries: Vec::new(alloc),
             free: Vec::new(alloc),
             spare: 0,
+            bytes: 0,
         }
     }
 
@@ -91,6 +94,13 @@ impl Relation {
         ensures { result ≡ (map.len self.now.states == 0) }
     {
         self.entries.len() == 0
+    }
+
+    /// How many bytes its states take where they are stored, each with its key.
+    pub fn bytes(&self) -> u64
+        ensures { result ≡ encoded_by self.now.states }
+    {
+        self.bytes
     }
 
     /// The state of a key.
@@ -129,14 +139,20 @@ impl Relation {
         Ok(())
     }
 
-    /// Sets the state of a key. Where the key isn't there, this takes a spare place.
+    /// Sets the state of a key. Where the key isn't there, this takes a spare place. The bytes of all states stay below 2^62.
     pub fn set(&mut self, key: Key, state: BlobState)
-        requires { IsTrue (map.contains_key self.old.states key) ⊎ (1 ≤ self.old.spare) }
+        requires spare { IsTrue (map.contains_key self.old.states key) ⊎ (1 ≤ self.old.spare) }
+        requires bytes { encoded_by (map.insert self.old.states key state) < 2 ^ 62 }
         ensures states { self.new.states ≡ map.insert self.old.states key state }
         ensures spare { self.new.spare ≡ (if map.contains_key self.old.states key then self.old.spare else self.old.spare - 1) }
     {
+        let longer = state.encoded(&key) as u64;
         match search(&self.entries, &key) {
-            Ok(at) => *self.entries[at].state = state,
+            Ok(at) => {
+                let place = &mut self.entries[at].state;
+                self.bytes = self.bytes - place.encoded(&key) as u64 + longer;
+                **place = state;
+            }
             Err(at) => {
                 let Some(mut place) = self.free.pop() else {
                     unreachable!()
@@ -145,6 +161,7 @@ impl Relation {
                 // There is room for it, since a place was spare.
                 let _ = self.entries.insert(at, Entry { key, state: place });
                 self.spare -= 1;
+                self.bytes += longer;
             }
         }
     }
@@ -159,6 +176,7 @@ impl Relation {
             Ok(at) => {
                 let mut place = self.entries.remove(at).state;
                 let state = mem::replace(&mut *place, blank());
+                self.bytes -= state.encoded(key) as u64;
                 // There is room for it, since its entry had room.
                 let _ = self.free.push(place);
                 Some(state)
@@ -167,12 +185,45 @@ impl Relation {
         }
     }
 
+    /// A relation with the same states, in places of their own, and none spare.
+    pub fn copy(&self, alloc: Global) -> Result<Relation, OutOfMemory>
+        ensures states { IfOk result (λ copy. copy.states ≡ self.now.states) }
+        ensures spare { IfOk result (λ copy. copy.spare ≡ 0) }
+    {
+        let entries = copy_entries(alloc, &self.entries)?;
+        let mut free = Vec::new(alloc);
+        free.reserve(entries.len())?;
+        Ok(Relation {
+            entries,
+            free,
+            spare: 0,
+            bytes: self.bytes,
+        })
+    }
+
     /// Head and tier of every extent, and of every tail's page as tier 0, in the order of the keys.
     pub fn owned(&self, alloc: Global) -> Result<Owned, OutOfMemory>
         ensures { IfOk result (λ owned. owned ≡ owned_by self.now.states) }
     {
         blocks_by(alloc, &self.entries)
     }
+}
+
+// The same entries, whose states stand in places of their own.
+fn copy_entries(alloc: Global, entries: &[Entry]) -> Result<Vec<Entry>, OutOfMemory>
+    ensures { IfOk result (λ copy. entries_of copy.items ≡ entries_of entries.now) }
+{
+    let mut copy = Vec::new(alloc);
+    copy.reserve(entries.len())?;
+    'copied: for i in 0..entries.len() {
+        let Ok(state) = Box::new(alloc, entries[i].state.copy()) else {
+            return Err(OutOfMemory);
+        };
+        let key = entries[i].key.copy();
+        // There is room for it.
+        let _ = copy.push(Entry { key, state });
+    }
+    Ok(copy)
 }
 
 // Head and tier of every extent and tail of these entries.

@@ -18,13 +18,16 @@ fn state_of<R: Abort>(rt: &R, content: &[u8], page: u32) -> BlobState {
     draft.place(&ArrayVec::new(), Some(page), 1)
 }
 
-// Sets a key to the state of a content.
+// Sets a key to the state of a content. Its relation takes few bytes.
 fn set<R: Abort>(rt: &R, relation: &mut Relation, key: &str, content: &[u8], page: u32)
     requires { 1 ≤ relation.old.spare }
     ensures { relation.old.spare ≤ relation.new.spare + 1 }
 {
     let key = Key::read(key.as_bytes()).expect(rt, "a key");
-    relation.set(key, state_of(rt, content, page));
+    let state = state_of(rt, content, page);
+    assert!(rt; state.encoded(&key) < 1_000);
+    assert!(rt; relation.bytes() < 1_000);
+    relation.set(key, state);
 }
 
 fn expect_size<R: Abort>(rt: &R, relation: &Relation, key: &str, size: Option<u64>) {
@@ -54,6 +57,9 @@ fn states_by_their_keys(rt: HostRuntime) -> Result<(), Fail> {
     expect_keys(&rt, &relation, &["a/z", "b/a", "b/b"]);
     let owned = relation.owned(rt.alloc())?;
     assert!(rt; owned.as_slice() == [(1, 0), (2, 0), (3, 0)].as_slice());
+    // A key of 3 bytes and a state without extents take 80 bytes, and its tail 4.
+    assert_eq!(rt; relation.bytes(), 252);
+    let copy = relation.copy(rt.alloc())?;
     expect_size(&rt, &relation, "b/b", Some(5));
     expect_size(&rt, &relation, "a/z", Some(3));
     expect_size(&rt, &relation, "a/y", None);
@@ -63,5 +69,9 @@ fn states_by_their_keys(rt: HostRuntime) -> Result<(), Fail> {
     assert_eq!(rt; removed.size(), 4);
     assert!(rt; relation.remove(&key).is_none());
     expect_keys(&rt, &relation, &["a/z", "b/b"]);
+    assert_eq!(rt; relation.bytes(), 168);
+    expect_keys(&rt, &copy, &["a/z", "b/a", "b/b"]);
+    expect_size(&rt, &copy, "b/a", Some(4));
+    assert_eq!(rt; copy.bytes(), 252);
     Ok(())
 }

@@ -6,6 +6,7 @@ use Rattle.store_model.specs.State.{State}
 use Rattle.relation.specs.Entries.{entries_of}
 use Rattle.relation.specs.Parts.{Parts}
 use Rattle.relation.proofs.Relations.{found-key, found-state, insert-put, missing-spare, missing-state, inserted-put, put-found, sorted-put}
+use Rattle.relation.proofs.Encoded.{bytes_of, encoded-at, encoded-put_new, encoded-put_old, few-put, found-entry}
 use Rattle.relation.proofs.relation.Relation.set.Goals as goal
 
 pub unreachable-requires : goal.unreachable-requires
@@ -13,25 +14,37 @@ unreachable-requires c =
     let found = c.in-Err.ensures.found in
     let none = missing-state c.self.inside.entries.items c.deref.result.now c.in-Err.at c.args.key c.deref.ensures.value c.self.invariant.sorted found.1 found.2 in
     let missing : map.get c.args.self.now.states c.args.key ≡ None = ap (λ (p : Parts). map.get p.states c.args.key) (sym c.self.view_is) ∙ none in
-    omega (arith, missing-spare c.args.self.now.states c.args.key c.args.self.now.spare missing c.requires, ap (λ (p : Parts). p.spare) c.self.view_is, c.self.invariant.spare, c.in_default.ensures.cases.0)
+    omega (arith, missing-spare c.args.self.now.states c.args.key c.args.self.now.spare missing c.requires.spare, ap (λ (p : Parts). p.spare) c.self.view_is, c.self.invariant.spare, c.in_default.ensures.cases.0)
 
-pub overflow_sub-self : goal.overflow_sub-self
-overflow_sub-self c =
+pub overflow_sub-self-in-Err : goal.overflow_sub-self-in-Err
+overflow_sub-self-in-Err c =
     let found = c.in-Err.ensures.found in
     let none = missing-state c.self.inside.entries.items c.deref.result.now c.in-Err.at c.args.key c.deref.ensures.value c.self.invariant.sorted found.1 found.2 in
     let missing : map.get c.args.self.now.states c.args.key ≡ None = ap (λ (p : Parts). map.get p.states c.args.key) (sym c.self.view_is) ∙ none in
-    omega (arith, missing-spare c.args.self.now.states c.args.key c.args.self.now.spare missing c.requires, ap (λ (p : Parts). p.spare) c.self.view_is)
+    omega (arith, missing-spare c.args.self.now.states c.args.key c.args.self.now.spare missing c.requires.spare, ap (λ (p : Parts). p.spare) c.self.view_is)
+
+pub overflow_sub-self : goal.overflow_sub-self
+overflow_sub-self c =
+    let kept = c.self.inside.entries.items in
+    let here = found-entry kept c.deref.result.now c.in-Ok.at c.args.key c.index_mut.result.now c.index_mut.result.now c.deref.ensures.value c.in-Ok.ensures.found c.index_mut.ensures.value in
+    omega (arith, c.self.invariant.bytes, encoded-at (entries_of kept) c.in-Ok.at _ here, c.encoded.ensures.value, ap (λ (s : State). bytes_of (c.args.key, s)) c.deref-in-Ok.ensures)
 
 pub invariant_of-self : goal.invariant_of-self
 invariant_of-self c =
     let kept = c.self.inside.entries.items in
     let key = found-key kept c.deref.result.now c.in-Ok.at c.args.key c.index_mut.result.now c.index_mut.result.now c.deref.ensures.value c.in-Ok.ensures.found c.index_mut.ensures.value in
+    let here = found-entry kept c.deref.result.now c.in-Ok.at c.args.key c.index_mut.result.now c.index_mut.result.now c.deref.ensures.value c.in-Ok.ensures.found c.index_mut.ensures.value in
+    let put = put-found kept c.deref.result.now c.in-Ok.at c.args.key _ c.args.state c.deref.ensures.value c.self.invariant.sorted c.in-Ok.ensures.found (ap (λ (k : List ℕ). (k, c.args.state)) key) in
+    let old = ap (λ (s : State). bytes_of (c.args.key, s)) c.deref-in-Ok.ensures in
+    let least = encoded-at (entries_of kept) c.in-Ok.at _ here in
+    let now = encoded-put_old (entries_of kept) _ c.in-Ok.at c.args.key c.args.state _ c.self.invariant.sorted here put in
     record {
-      sorted = sorted-put (entries_of kept) _ c.args.key c.args.state c.self.invariant.sorted
-          (put-found kept c.deref.result.now c.in-Ok.at c.args.key _ c.args.state c.deref.ensures.value c.self.invariant.sorted c.in-Ok.ensures.found (ap (λ (k : List ℕ). (k, c.args.state)) key));
+      sorted = sorted-put (entries_of kept) _ c.args.key c.args.state c.self.invariant.sorted put;
       spare = c.self.invariant.spare;
       room = c.self.invariant.room;
       back = c.self.invariant.back;
+      bytes = omega (arith, c.self.invariant.bytes, now, old, least, c.encoded.ensures.value, c.encoded-longer.ensures.value);
+      few = omega (arith, c.self.invariant.bytes, now, old, least, c.encoded.ensures.value, c.encoded-longer.ensures.value, few-put (entries_of kept) _ c.args.key c.args.state _ c.self.invariant.sorted put (ap (λ (p : Parts). p.states) c.self.view_is) c.requires.bytes);
     }
 
 pub returns-in-Ok-clause-states : goal.returns-in-Ok-clause-states
@@ -56,12 +69,15 @@ invariant_of-self-in-Err c =
     let room : vec_len c.self.inside.entries < vec_capacity c.self.inside.entries = omega (arith, c.self.invariant.room, c.in-Some.ensures.len) in
     let ok = c.insert.ensures.succeeds room in
     let longer = c.insert.ensures.len ∙ ap (λ (b : Bool). cond b (vec_len c.self.inside.entries + 1) (vec_len c.self.inside.entries)) ok in
+    let put = inserted-put _ kept c.deref.result.now c.insert.new.self.items c.in-Err.at c.args.key c.args.state c.insert.result c.insert.ensures.items ok c.deref.ensures.value found.1 found.2 refl in
+    let now = encoded-put_new kept c.deref.result.now _ c.in-Err.at c.args.key c.args.state c.deref.ensures.value found.1 found.2 put in
     record {
-      sorted = sorted-put (entries_of kept) _ c.args.key c.args.state c.self.invariant.sorted
-          (inserted-put _ kept c.deref.result.now c.insert.new.self.items c.in-Err.at c.args.key c.args.state c.insert.result c.insert.ensures.items ok c.deref.ensures.value found.1 found.2 refl);
+      sorted = sorted-put (entries_of kept) _ c.args.key c.args.state c.self.invariant.sorted put;
       spare = omega (arith, c.self.invariant.spare, c.in-Some.ensures.len);
       room = omega (arith, c.self.invariant.room, c.in-Some.ensures.len, longer, c.insert.ensures.capacity);
       back = omega (arith, c.self.invariant.back, c.in-Some.ensures.len, longer, c.in-Some.ensures.capacity);
+      bytes = omega (arith, c.self.invariant.bytes, now, c.encoded-longer.ensures.value);
+      few = omega (arith, c.self.invariant.bytes, now, c.encoded-longer.ensures.value, few-put (entries_of kept) _ c.args.key c.args.state _ c.self.invariant.sorted put (ap (λ (p : Parts). p.states) c.self.view_is) c.requires.bytes);
     }
 
 pub returns-in-Some-clause-states : goal.returns-in-Some-clause-states
