@@ -4,7 +4,7 @@ ghost use Rattle.std.specs.Prelude.{◌≡◌, ℕ, ◌+◌, ◌*◌, ◌/◌, �
 ghost use Rattle.store_model.specs.Disk.{page_bytes};
 ghost use Rattle.store_model.specs.Hash.{Leads, initial_state};
 ghost use Rattle.store_model.specs.Shape.{greatest_size};
-ghost use Rattle.store_model.specs.State.{AreAligned, AreMarks, HasExtents, HasTail, IsDraft, IsDraftOf, IsNumber, MarksTell, Places, Tells, heads_of, marks_of, prefix_of};
+ghost use Rattle.store_model.specs.State.{AreAligned, AreMarks, HasExtents, HasTail, IsDraft, IsDraftOf, IsNumber, IsState, MarksTell, Places, Tells, heads_of, marks_of, prefix_of};
 ghost use Rattle.blob_state.specs.Values.{extents_of, words_of};
 
 use crate::state::{EXTENTS, PAGE_BYTES};
@@ -89,6 +89,7 @@ impl Draft {
         requires tail { HasTail self.now.size tail }
         requires born { IsNumber born }
         ensures places { Places self.now heads.now.items tail born result }
+        ensures rules { IsState result }
 
         // Wherever the draft of a content is placed, the state is one of the content.
         ensures tells { (content : List ℕ) → IsDraftOf self.now content → Tells result content }

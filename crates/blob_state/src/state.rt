@@ -1,15 +1,19 @@
 // States of objects.
 
-ghost use Rattle.std.specs.Prelude.{◌≡◌, ◌≤◌, length};
-ghost use Rattle.store_model.specs.State.{IsState};
+ghost use Rattle.std.specs.Prelude.{◌≡◌, ◌≤◌, ◌++◌, length, OnOk};
+ghost use Rattle.store_model.specs.Holds.{place_of};
+ghost use Rattle.store_model.specs.Space.{blocks_of, extent_blocks, tail_blocks};
+ghost use Rattle.store_model.specs.State.{IsState, heads_of};
 ghost use Rattle.store_model.specs.Tuple.{spelling, tail_spelling};
 ghost use Rattle.blob_state.specs.Values.{extents_of};
 
 use crate::{Extent, Print};
 use arrayvec::ArrayVec;
-use blob_base::Key;
+use blob_base::{Key, OutOfMemory, Owned};
 use sha_resume::Digest;
+use std::alloc::Global;
 use std::marker::Model;
+use tier_table::tier;
 
 // How many bytes a page has.
 pub(crate) const PAGE_BYTES: usize = 4096;
@@ -130,6 +134,36 @@ impl BlobState {
     {
         let key_bytes = 1 + key.text().len();
         key_bytes + FIELDS_BYTES + EXTENT_BYTES * self.extents.len() + tail_bytes(self.tail)
+    }
+
+    /// Adds head and tier of each extent to what is owned, and its tail's page as tier 0. After an `Err` some of them may have
+    /// been added.
+    pub fn add_owned(&self, alloc: Global, owned: &mut Owned) -> Result<(), OutOfMemory>
+        ensures { OnOk result (owned.new ≡ owned.old ++ blocks_of (place_of self.now)) }
+    {
+        add_extents(alloc, self.extents.as_slice(), owned)?;
+        add_tail(alloc, self.tail, owned)
+    }
+}
+
+// Adds the heads of extents, each with its tier.
+fn add_extents(alloc: Global, extents: &[Extent], owned: &mut Owned) -> Result<(), OutOfMemory>
+    requires { length extents.now ≤ 127 }
+    ensures { OnOk result (owned.new ≡ owned.old ++ extent_blocks (heads_of (extents_of extents.now))) }
+{
+    'added: for i in 0..extents.len() {
+        owned.push(alloc, (extents[i].head, tier(i as u32)))?;
+    }
+    Ok(())
+}
+
+// Adds a tail's page.
+fn add_tail(alloc: Global, tail: Option<u32>, owned: &mut Owned) -> Result<(), OutOfMemory>
+    ensures { OnOk result (owned.new ≡ owned.old ++ tail_blocks tail) }
+{
+    match tail {
+        Some(page) => owned.push(alloc, (page, 0)),
+        None => Ok(()),
     }
 }
 

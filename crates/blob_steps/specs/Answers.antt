@@ -20,6 +20,8 @@ model_line (line.TooLong size) = model.TooLong size
 model_line (line.Stale now) = model.Stale now
 model_line line.Absent = model.Absent
 model_line (line.Committed number) = model.Committed number
+model_line (line.NoSpace key tier) = model.NoSpace key tier
+model_line (line.NoRoom need have) = model.NoRoom need have
 
 -- an answer as a line with its end
 abbrev pub text_of : Answer → List ℕ

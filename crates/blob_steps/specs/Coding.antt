@@ -1,5 +1,5 @@
 -- Codes of the definitions' values, by which proofs tell them apart.
-use Rattle.std.specs.Prelude.{◌≡◌, ℕ, ◌≤◌, List, length, Option, refl}
+use Rattle.std.specs.Prelude.{◌≡◌, ℕ, List, Option, refl}
 use Rattle.std.specs.FinMap as map
 use Rattle.std.specs.Coded.{Coded, code_by, coded×, coded_list, coded_ℕ, coded_option}
 use Rattle.store_model.specs.Key.{key_order}
@@ -23,8 +23,7 @@ transaction_code =
     code_by (map.FinMap key_order (Option ℕ) × map.FinMap key_order Change) (coded× (map.code key_code (coded_option coded_ℕ)) (map.code key_code change_code))
     (λ t. (t.reads, t.changes)) (λ p. record { reads = p.0; changes = p.1 }) (λ _. refl)
 
--- a draft of a content of less than a page
-pub record IsSmallDraft (draft : Draft) (content : List ℕ) : Type 0 where
-  pub small : length content ≤ 4095
+-- a draft of a content that isn't too long
+pub record IsDraftFor (content : List ℕ) (draft : Draft) : Type 0 where
   pub sound : IsDraft draft
   pub of : IsDraftOf draft content

@@ -23,3 +23,4 @@ ending_of status.DiskFault = Some model.DiskFault
 ending_of (status.Refused why) = Some (model.Refused (refusal_of why))
 ending_of status.OutOfMemory = Some model.OutOfMemory
 ending_of status.Usage = Some model.Usage
+ending_of (status.Damaged key link want got) = Some (model.Damaged key link want got)

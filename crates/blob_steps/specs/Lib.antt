@@ -4,6 +4,9 @@ pub mod Answers
 pub mod Lines
 pub mod Coding
 pub mod Sessions
-pub mod Worlds
+pub mod Faults
+pub mod Fitting
+pub mod Places
+pub mod Stores
 pub mod Steps
 pub mod Runs

@@ -1,9 +1,11 @@
 -- Whole runs, in the words of the definitions.
-use Rattle.std.specs.Prelude.{◌≡◌, ℕ, ◌≤◌, ◌⊎◌, ⊤, Bool, false, List, [], ◌∷◌, ◌++◌, map, Option, Some, None}
+use Rattle.std.specs.Prelude.{◌≡◌, ◌≢◌, ℕ, ◌≤◌, ◌⊎◌, ⊤, Bool, false, List, [], ◌∷◌, ◌++◌, Option, Some, None}
+use Rattle.std.specs.FinMap.{get}
 use Rattle.std.specs.Io.KnownBytes.{Appends}
 use Rattle.blob_base.specs.Faults.{Rose}
-use Rattle.blob_base.specs.declared.faults.IoFault.{IoFault}
 use Rattle.blob_base.specs.declared.faults.IoFault.TheVariants.{Failed, OutOfMemory}
+use Rattle.blob_steps.specs.declared.fault.StepFault.{StepFault}
+use Rattle.blob_steps.specs.declared.fault.StepFault.TheVariants as fault
 use Rattle.blob_steps.specs.declared.line.LineFault.{LineFault}
 use Rattle.blob_steps.specs.declared.line.LineFault.TheVariants as line
 use Rattle.blob_steps.specs.declared.status.Status.{Status}
@@ -12,8 +14,11 @@ use Rattle.blob_steps.specs.declared.world.World.{World}
 use Rattle.blob_steps.specs.Endings.{ending_of}
 use Rattle.blob_steps.specs.Steps.{Stands}
 use Rattle.blob_steps.specs.Lines.{LineTaken}
-use Rattle.store_model.specs.Disk.{Image, page_of, with_pages}
+use Rattle.store_model.specs.Disk.{Image, SameOff}
+use Rattle.store_model.specs.Holds.{Stands as Stored}
 use Rattle.store_model.specs.Layout.{Layout, data_page}
+use Rattle.store_model.specs.Space.{IsOwnedPage}
+use Rattle.store_model.specs.Store.{Object}
 use Rattle.store_model.specs.Answer.{line_end}
 use Rattle.store_model.specs.Closing.{closing_text}
 use Rattle.store_model.specs.Group as model
@@ -26,7 +31,7 @@ pub record Counts : Type 0 where
   pub sink : ℕ
   pub disk : ℕ
 
--- a fault is told only where the count of that end rose
+-- a fault is told only where the count of that end rose, and damage only where two values differ
 abbrev pub HasReason : Status → Counts → Counts → Type 0
 HasReason status.Done before now = ⊤
 HasReason (status.NotBuilt line) before now = ⊤
@@ -36,6 +41,7 @@ HasReason status.DiskFault before now = Rose before.disk now.disk
 HasReason (status.Refused why) before now = ⊤
 HasReason status.OutOfMemory before now = ⊤
 HasReason status.Usage before now = ⊤
+HasReason (status.Damaged key link want got) before now = want ≢ got
 
 -- no count fell
 pub record Later (before now : Counts) : Type 0 where
@@ -71,16 +77,20 @@ BadLine number None = ⊤
 BadLine number (Some script) = (line : List ℕ) × (rest : List (List ℕ)) × (lines_of script ≡ line ∷ rest) × (step_at number line ≡ None)
 
 -- the play of lines from this number on, from this world on
-abbrev pub playing : ℕ → model.World → List (List ℕ) → Played
-playing number world lines = record {
-  text = (play_steps world (steps_from number lines).steps).text;
+abbrev pub playing : Layout → ℕ → model.World → List (List ℕ) → Played
+playing layout number world lines = record {
+  text = (play_steps layout world (steps_from number lines).steps).text;
   end = (steps_from number lines).end;
-  world = (play_steps world (steps_from number lines).steps).world;
+  world = (play_steps layout world (steps_from number lines).steps).world;
 }
 
 -- some text, and then the play of what is left
 abbrev pub after_text : List ℕ → Played → Played
 after_text text played = record { text = text ++ played.text; end = played.end; world = played.world }
+
+-- the disk and the program's world are at some world
+abbrev pub AtWorld : Image → World → Type 0
+AtWorld image mine = (base : Image) × (world : model.World) × Stands base image mine world
 
 -- A run on the way: it is at a world, has printed whole lines, and what is left of the script plays on to the whole.
 pub record Going (base image : Image) (mine : World) (number : ℕ) (left old new : Option (List ℕ)) (whole : Played) : Type 0 where
@@ -91,12 +101,14 @@ pub record Going (base image : Image) (mine : World) (number : ℕ) (left old ne
   pub lines : EndsLine text
   pub script : List ℕ
   pub left_is : left ≡ Some script
-  pub plays_on : after_text text (playing number world (lines_of script)) ≡ whole
+  pub plays_on : after_text text (playing mine.store.layout number world (lines_of script)) ≡ whole
 
--- The sink took this text of a play, and the data pages have what it committed.
+-- The sink took this text of a play, each object that it leaves stands in the data area, and no page of the disk has changed
+-- but those that its committed contents took there.
 pub record Took (base image : Image) (layout : Layout) (old new : Option (List ℕ)) (whole : Played) : Type 0 where
   pub text : Appends old new whole.text
-  pub pages : image ≡ with_pages base (data_page layout) (map page_of whole.world.poured)
+  pub objects : (key : List ℕ) (object : Object) → get whole.world.store.objects key ≡ Some object → Stored image (data_page layout) object
+  pub others : SameOff (IsOwnedPage layout whole.world.taken) base image
 
 -- The sink took a front of a play's text, whole lines unless the status may cut one.
 pub record TookFront (status : Status) (frugal : Bool) (old new : Option (List ℕ)) (whole : Played) : Type 0 where
@@ -105,7 +117,7 @@ pub record TookFront (status : Status) (frugal : Bool) (old new : Option (List �
   pub front : IsFront text whole.text
   pub lines : EndsLine text ⊎ MayCut status frugal
 
--- how a run over a known script ended, before the closing line
+-- How a run over a known script and a disk that tells its pages ended, before the closing line. No content is damaged then.
 abbrev pub Ended : Status → Bool → Image → Image → Layout → Option (List ℕ) → Option (List ℕ) → Played → Type 0
 Ended status.Done frugal base image layout old new whole = (whole.end ≡ AtInputEnd) × Took base image layout old new whole
 Ended (status.NotBuilt line) frugal base image layout old new whole = (whole.end ≡ AtLine line) × Took base image layout old new whole
@@ -115,6 +127,7 @@ Ended status.DiskFault frugal base image layout old new whole = TookFront status
 Ended (status.Refused why) frugal base image layout old new whole = Appends old new []
 Ended status.OutOfMemory frugal base image layout old new whole = TookFront status.OutOfMemory frugal old new whole
 Ended status.Usage frugal base image layout old new whole = Appends old new []
+Ended (status.Damaged key link want got) frugal base image layout old new whole = ⊥
 
 -- The closing line: the sink took a front of it, all of it unless the sink failed or a sink that isn't frugal found no
 -- memory.
@@ -135,6 +148,7 @@ EndsReading _ number left before now = ⊥
 abbrev pub EndsStep : Status → ℕ → ℕ → Type 0
 EndsStep status.DiskFault before now = Rose before now
 EndsStep status.OutOfMemory before now = ⊤
+EndsStep (status.Damaged key link want got) before now = want ≢ got
 EndsStep _ before now = ⊥
 
 -- what ends the printing of an answer, other than well
@@ -148,10 +162,23 @@ abbrev pub SomeLine : Option (List ℕ) → Type 0
 SomeLine None = ⊤
 SomeLine (Some script) = (line : List ℕ) × (rest : List (List ℕ)) × (lines_of script ≡ line ∷ rest)
 
--- what a fault of the disk ends a run with
-abbrev pub disk_ending : IoFault → Status
-disk_ending Failed = status.DiskFault
-disk_ending OutOfMemory = status.OutOfMemory
+-- what a step without an answer ends a run with
+abbrev pub step_ending : StepFault → Status
+step_ending fault.Failed = status.DiskFault
+step_ending fault.OutOfMemory = status.OutOfMemory
+step_ending (fault.Damaged key link want got) = status.Damaged key link want got
+
+-- a status other than damage
+abbrev pub IsUndamaged : Status → Type 0
+IsUndamaged status.Done = ⊤
+IsUndamaged (status.NotBuilt line) = ⊤
+IsUndamaged status.ReadFault = ⊤
+IsUndamaged status.WriteFault = ⊤
+IsUndamaged status.DiskFault = ⊤
+IsUndamaged (status.Refused why) = ⊤
+IsUndamaged status.OutOfMemory = ⊤
+IsUndamaged status.Usage = ⊤
+IsUndamaged (status.Damaged key link want got) = ⊥
 
 -- what a fault in reading a line ends a run with
 abbrev pub reading_ending : LineFault → Status
@@ -169,6 +196,7 @@ IsRunning status.DiskFault = ⊤
 IsRunning (status.Refused why) = ⊥
 IsRunning status.OutOfMemory = ⊤
 IsRunning status.Usage = ⊥
+IsRunning (status.Damaged key link want got) = ⊤
 
 -- a status with which a script's run ends
 abbrev pub IsAccepted : Status → Type 0
@@ -180,6 +208,7 @@ IsAccepted status.DiskFault = ⊤
 IsAccepted (status.Refused why) = ⊥
 IsAccepted status.OutOfMemory = ⊤
 IsAccepted status.Usage = ⊥
+IsAccepted (status.Damaged key link want got) = ⊤
 
 -- a status with which no script was run
 abbrev pub IsTurnedAway : Status → Type 0
@@ -191,3 +220,4 @@ IsTurnedAway status.DiskFault = ⊥
 IsTurnedAway (status.Refused why) = ⊤
 IsTurnedAway status.OutOfMemory = ⊥
 IsTurnedAway status.Usage = ⊤
+IsTurnedAway (status.Damaged key link want got) = ⊥

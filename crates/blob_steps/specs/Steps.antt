@@ -1,21 +1,32 @@
 -- What a step does to the program's world, in the words of the definitions.
-use Rattle.std.specs.Prelude.{◌≡◌, ℕ, ◌+◌, ◌≤◌, ⊤, List, length}
+use Rattle.std.specs.Prelude.{◌≡◌, ℕ, ◌+◌, ⊤, List, [], ◌∷◌}
 use Rattle.blob_steps.specs.declared.world.World.{World}
 use Rattle.blob_steps.specs.declared.answer.Answer.{Answer}
 use Rattle.blob_steps.specs.Answers.{text_of}
 use Rattle.blob_steps.specs.Sessions.{model_session, change_count}
-use Rattle.blob_steps.specs.Worlds.{IsWorld}
-use Rattle.store_model.specs.Disk.{Image}
+use Rattle.blob_steps.specs.Stores.{StoreStands}
+use Rattle.store_model.specs.Disk.{Image, SameOff}
+use Rattle.store_model.specs.Space.{IsOwnedPage}
 use Rattle.store_model.specs.Answer.{AnswerLine}
-use Rattle.store_model.specs.Turn.{Action, Begin, Get, Stat, Put, Commit, turn}
+use Rattle.store_model.specs.Turn.{Action, Session as TurnSession, Free, Open, Waiting, turn}
 use Rattle.store_model.specs.Group as model
 use Rattle.store_model.specs.Group.{lead}
 use Rattle.store_model.specs.Play.{with_turn, step_play}
 use Rattle.store_model.specs.Script.{Step, Session, Lead}
 
--- The disk and the program's world are at a world that began over the pages `base`.
-abbrev pub Stands : Image → Image → World → model.World → Type 0
-Stands base image mine world = IsWorld base image mine.store.layout mine.store.objects mine.store.last mine.store.poured (model_session mine.session) world
+-- Who waits in the queue, where there is one session.
+abbrev pub queue_of : TurnSession → List ℕ
+queue_of Free = []
+queue_of (Open transaction) = []
+queue_of (Waiting transaction) = 0 ∷ []
+
+-- The disk and the program's world are at a world that began over the pages `base`: the store stands, no page has changed
+-- but those that committed contents took, and the one session is session 0.
+pub record Stands (base image : Image) (mine : World) (world : model.World) : Type 0 where
+  pub store : StoreStands image mine.store world.store
+  pub others : SameOff (IsOwnedPage mine.store.layout world.taken) base image
+  pub session_is : model_session mine.session ≡ world.sessions 0
+  pub queue_is : world.queue ≡ queue_of (model_session mine.session)
 
 -- the answer line is that of the turn, and the disk and the program's world are where it leads
 pub record IsTurn (base image : Image) (world : model.World) (action : Action) (line : AnswerLine) (new : World) : Type 0 where
@@ -24,27 +35,19 @@ pub record IsTurn (base image : Image) (world : model.World) (action : Action) (
 
 -- the answer is that of the lead, and the disk and the program's world are where it leads
 pub record IsLead (base image : Image) (world : model.World) (answer : Answer) (new : World) : Type 0 where
-  pub text_is : text_of answer ≡ (lead world).text
-  pub stands : Stands base image new (lead world).world
+  pub text_is : text_of answer ≡ (lead new.store.layout world).text
+  pub stands : Stands base image new (lead new.store.layout world).world
 
--- an action puts less than a page
-abbrev pub IsSmallAction : Action → Type 0
-IsSmallAction Begin = Unit {0}
-IsSmallAction (Get key) = Unit {0}
-IsSmallAction (Stat key) = Unit {0}
-IsSmallAction (Put key content) = length content ≤ 4095
-IsSmallAction Commit = Unit {0}
-
--- a bound on the data pages and the numbers in use: no step raises it by more than one
+-- a bound on the numbers in use and on the changes of the open transaction: no step raises it by more than one
 abbrev pub weight : World → ℕ
-weight mine = mine.store.last + mine.store.poured + change_count (model_session mine.session)
+weight mine = mine.store.last + change_count (model_session mine.session)
 
--- A step that is played: of the one session, putting less than a page, or a lead.
+-- A step that is played: of the one session, or a lead.
 abbrev pub IsPlayed : Step → Type 0
-IsPlayed (Session number action) = (number ≡ 0) × IsSmallAction action
+IsPlayed (Session number action) = number ≡ 0
 IsPlayed Lead = ⊤
 
 -- a step was played: this is its text, and the disk and the program's world are where it leads
 pub record IsDone (base image : Image) (world : model.World) (step : Step) (text : List ℕ) (new : World) : Type 0 where
-  pub text_is : text ≡ (step_play world step).text
-  pub stands : Stands base image new (step_play world step).world
+  pub text_is : text ≡ (step_play new.store.layout world step).text
+  pub stands : Stands base image new (step_play new.store.layout world step).world

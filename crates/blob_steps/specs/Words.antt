@@ -5,6 +5,7 @@ use Rattle.blob_steps.specs.declared.script.Action.{Action}
 use Rattle.blob_steps.specs.declared.script.Action.TheVariants as action
 use Rattle.blob_steps.specs.declared.script.Step.{Step}
 use Rattle.blob_steps.specs.declared.script.Step.TheVariants as step
+use Rattle.blob_script.specs.Contents.{content_bytes}
 use Rattle.store_model.specs.Layout.{Layout}
 use Rattle.store_model.specs.Turn as turn
 use Rattle.store_model.specs.Script as model
@@ -18,7 +19,7 @@ model_action action.Begin = turn.Begin
 model_action action.Commit = turn.Commit
 model_action (action.Get key) = turn.Get key
 model_action (action.Stat key) = turn.Stat key
-model_action (action.Put key content) = turn.Put key content
+model_action (action.Put key content) = turn.Put key (content_bytes content)
 
 abbrev pub model_step : Step → model.Step
 model_step (step.Session session action) = model.Session session (model_action action)

@@ -1,10 +1,10 @@
 // The answers to a script's lines, as they are printed.
 
 ghost use Rattle.std.specs.Prelude.{◌≡◌, ◌++◌, OnOk, decimal};
-ghost use Rattle.store_model.specs.Answer.{line_text, Value, Stat};
+ghost use Rattle.store_model.specs.Answer.{line_text, NoRoom, NoSpace, Value, Stat};
 ghost use Rattle.blob_steps.specs.Answers.{model_line, text_of};
 
-use blob_base::{Bytes, OutOfMemory};
+use blob_base::{Bytes, Key, OutOfMemory};
 use sha_resume::Digest;
 use std::alloc::Global;
 
@@ -24,6 +24,8 @@ pub(crate) enum AnswerLine {
     Stale { now: Option<u64> },
     Absent,
     Committed { number: u64 },
+    NoSpace { key: Key, tier: u32 },
+    NoRoom { need: u64, have: u64 },
 }
 
 /// The answer to a line.
@@ -74,6 +76,8 @@ impl AnswerLine {
             AnswerLine::Stale { now: None } => out.append(alloc, b"stale none"),
             AnswerLine::Absent => out.append(alloc, b"absent"),
             AnswerLine::Committed { number } => append_labelled(alloc, out, b"committed ", *number),
+            AnswerLine::NoSpace { key, tier } => append_no_space(alloc, out, key, *tier),
+            AnswerLine::NoRoom { need, have } => append_no_room(alloc, out, *need, *have),
         }
     }
 }
@@ -96,6 +100,23 @@ fn append_labelled(
 {
     out.append(alloc, label)?;
     append_number(alloc, out, number)
+}
+
+// Adds a key and a tier that has no place for it.
+fn append_no_space(alloc: Global, out: &mut Bytes, key: &Key, tier: u32) -> Result<(), OutOfMemory>
+    ensures { OnOk result (out.new ≡ out.old ++ line_text (NoSpace key.now tier)) }
+{
+    out.append(alloc, b"no-space ")?;
+    out.append(alloc, key.text())?;
+    append_labelled(alloc, out, b" ", u64::from(tier))
+}
+
+// Adds how many bytes states need, and how many there are for them.
+fn append_no_room(alloc: Global, out: &mut Bytes, need: u64, have: u64) -> Result<(), OutOfMemory>
+    ensures { OnOk result (out.new ≡ out.old ++ line_text (NoRoom need have)) }
+{
+    append_labelled(alloc, out, b"no-room ", need)?;
+    append_labelled(alloc, out, b" ", have)
 }
 
 // Adds a content's size and digest.

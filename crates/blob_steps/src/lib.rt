@@ -2,15 +2,18 @@
 #![tactic(auto)]
 
 mod answer;
+mod fault;
 mod form;
 mod key_map;
 mod line;
+mod places;
 mod run;
 mod script;
 mod session;
 mod status;
 mod store;
 mod world;
+mod write;
 
 pub use form::Form;
 pub use run::run_alone;

@@ -15,14 +15,16 @@ ghost use Rattle.blob_steps.specs.Steps.{Stands, IsDone, IsPlayed, weight};
 ghost use Rattle.blob_steps.specs.Words.{model_step};
 ghost use Rattle.blob_steps.specs.Answers.{text_of};
 ghost use Rattle.blob_steps.specs.Lines.{NoLine};
-ghost use Rattle.blob_steps.specs.Runs.{Closed, Counts, Ended, EndsPrinting, EndsReading, EndsStep, Going, HasReason, IsAccepted, IsRunning, IsTurnedAway, Later, SomeLine, TakesStep, disk_ending, reading_ending};
+ghost use Rattle.blob_steps.specs.Stores.{IsSound};
+ghost use Rattle.blob_steps.specs.Runs.{AtWorld, Closed, Counts, Ended, EndsPrinting, EndsReading, EndsStep, Going, HasReason, IsAccepted, IsRunning, IsTurnedAway, IsUndamaged, Later, SomeLine, TakesStep, reading_ending, step_ending};
 
+use crate::fault::StepFault;
 use crate::form::Form;
 use crate::line::{Found, LineFault, LineReader};
 use crate::script::Step;
 use crate::status::Status;
 use crate::world::World;
-use blob_base::{Bytes, IoFault, StoreRefusal, Word};
+use blob_base::{Bytes, IoFault, OutOfMemory, StoreRefusal, Word};
 use disk_model::{Disk, Layout};
 use io_ends::{Sink, Source, put_all};
 use std::alloc::Global;
@@ -58,18 +60,19 @@ fn print<K: Sink>(sink: &mut K, text: &[u8]) -> Result<(), Status>
 }
 
 impl Run {
-    fn new(alloc: Global, layout: Layout) -> Run
-        ensures reader { result.reader ≡ [] }
-        ensures layout { result.world.store.layout ≡ layout }
-        ensures weight { weight result.world ≡ 0 }
-        ensures stands { (base : Image) → Stands base base result.world new_world }
+    fn new(alloc: Global, layout: Layout) -> Result<Run, OutOfMemory>
+        ensures reader { IfOk result (λ run. run.reader ≡ []) }
+        ensures sound { IfOk result (λ run. IsSound run.world.store) }
+        ensures layout { IfOk result (λ run. run.world.store.layout ≡ layout) }
+        ensures weight { IfOk result (λ run. weight run.world ≡ 0) }
+        ensures stands { IfOk result (λ run. (base : Image) → Stands base base run.world new_world) }
     {
-        Run {
+        Ok(Run {
             reader: LineReader::new(),
-            world: World::new(alloc, layout),
+            world: World::new(alloc, layout)?,
             line: Bytes::new(alloc),
             text: Bytes::new(alloc),
-        }
+        })
     }
 
     // Reads the step of the line of this number, or none at the end of the script.
@@ -122,11 +125,13 @@ impl Run {
 
     // Does a step, and makes its answer the text.
     fn do_step<D: Disk>(&mut self, alloc: Global, disk: &mut D, step: Step) -> Result<(), Status>
+        requires sound { IsSound self.old.world.store }
         requires played { IsPlayed (model_step step) }
         requires weight { weight self.old.world < 1024 }
         requires disk { total_pages self.old.world.store.layout ≤ D.size disk.old }
         ensures step { IsTrue D.tells → (base : Image) (world : ModelWorld) → Stands base (D.story disk.old).reads self.old.world world
-            → OnOk result (IsDone base (D.story disk.new).reads world (model_step step) self.new.text self.new.world) }
+            → MatchResult result (λ _. IsDone base (D.story disk.new).reads world (model_step step) self.new.text self.new.world) IsUndamaged }
+        ensures sound { OnOk result (IsSound self.new.world.store) }
         ensures weight { OnOk result (weight self.new.world ≤ weight self.old.world + 1) }
         ensures reader { self.new.reader ≡ self.old.reader }
         ensures layout { self.new.world.store.layout ≡ self.old.world.store.layout }
@@ -137,7 +142,7 @@ impl Run {
     {
         let answer = match self.world.step(alloc, disk, step) {
             Ok(answer) => answer,
-            Err(fault) => return Err(disk_status(fault)),
+            Err(fault) => return Err(step_status(fault)),
         };
         self.text.clear();
         match answer.print(alloc, &mut self.text) {
@@ -155,6 +160,7 @@ impl Run {
         sink: &mut K,
         disk: &mut D,
     ) -> Result<bool, Status>
+        requires sound { IsSound self.old.world.store }
         requires number { number ≤ 16 }
         requires weight { weight self.old.world < 1024 }
         requires disk { total_pages self.old.world.store.layout ≤ D.size disk.old }
@@ -165,6 +171,9 @@ impl Run {
             (Going base (D.story disk.new).reads self.new.world (number + 1) (prepend_known self.new.reader (S.left source.new)) taken (K.taken sink.new) whole)
             (Ended Status.Done (K.frugal sink.old) base (D.story disk.new).reads self.old.world.store.layout taken (K.taken sink.new) whole))
             (λ status. Ended status (K.frugal sink.old) base (D.story disk.new).reads self.old.world.store.layout taken (K.taken sink.new) whole) }
+        ensures whole { IsTrue D.tells → AtWorld (D.story disk.old).reads self.old.world
+            → MatchResult result (λ _. AtWorld (D.story disk.new).reads self.new.world) IsUndamaged }
+        ensures sound { OnOk result (IsSound self.new.world.store) }
         ensures weight { OnOk result (weight self.new.world ≤ weight self.old.world + 1) }
         ensures layout { self.new.world.store.layout ≡ self.old.world.store.layout }
         ensures size { D.size disk.new ≡ D.size disk.old }
@@ -203,13 +212,24 @@ fn reading_status(fault: LineFault) -> Status
     }
 }
 
-// The status of a call that the disk failed.
-fn disk_status(fault: IoFault) -> Status
-    ensures { result ≡ disk_ending fault }
+// The status of a step that has no answer.
+fn step_status(fault: StepFault) -> Status
+    ensures { result ≡ step_ending fault }
 {
     match fault {
-        IoFault::Failed => Status::DiskFault,
-        IoFault::OutOfMemory => Status::OutOfMemory,
+        StepFault::Failed => Status::DiskFault,
+        StepFault::OutOfMemory => Status::OutOfMemory,
+        StepFault::Damaged {
+            key,
+            link,
+            want,
+            got,
+        } => Status::Damaged {
+            key,
+            link,
+            want,
+            got,
+        },
     }
 }
 
@@ -224,8 +244,9 @@ fn run_script<S: Source, K: Sink, D: Disk>(
     requires { total_pages layout ≤ D.size disk.old }
     ensures ended { IsTrue D.tells → (script : List ℕ) → S.left source.old ≡ Some script
         → MatchResult result
-        (λ _. Ended Status.Done (K.frugal sink.old) (D.story disk.old).reads (D.story disk.new).reads layout (K.taken sink.old) (K.taken sink.new) (play script))
-        (λ status. Ended status (K.frugal sink.old) (D.story disk.old).reads (D.story disk.new).reads layout (K.taken sink.old) (K.taken sink.new) (play script)) }
+        (λ _. Ended Status.Done (K.frugal sink.old) (D.story disk.old).reads (D.story disk.new).reads layout (K.taken sink.old) (K.taken sink.new) (play layout script))
+        (λ status. Ended status (K.frugal sink.old) (D.story disk.old).reads (D.story disk.new).reads layout (K.taken sink.old) (K.taken sink.new) (play layout script)) }
+    ensures whole { IsTrue D.tells → IfErr result IsUndamaged }
     ensures reason { IfErr result (λ status. HasReason status
         (record { source = S.faults source.old; sink = K.faults sink.old; disk = D.faults disk.old })
         (record { source = S.faults source.new; sink = K.faults sink.new; disk = D.faults disk.new })) }
@@ -236,7 +257,9 @@ fn run_script<S: Source, K: Sink, D: Disk>(
     ensures size { D.size disk.new ≡ D.size disk.old }
     ensures frugal { K.frugal sink.new ≡ K.frugal sink.old }
 {
-    let mut run = Run::new(alloc, layout);
+    let Ok(mut run) = Run::new(alloc, layout) else {
+        return Err(Status::OutOfMemory);
+    };
     for number in 1..MAX_LINES + 1 {
         if !run.answer_line(alloc, number, source, sink, disk)? {
             return Ok(());
@@ -264,7 +287,8 @@ fn fresh<S: Source, K: Sink, D: Disk>(
     ensures untouched { D.size disk.old < total_pages layout → K.taken sink.new ≡ K.taken sink.old }
     ensures accepted { total_pages layout ≤ D.size disk.old → IsAccepted result }
     ensures ended { IsTrue D.tells → (script : List ℕ) → S.left source.old ≡ Some script
-        → Ended result (K.frugal sink.old) (D.story disk.old).reads (D.story disk.new).reads layout (K.taken sink.old) (K.taken sink.new) (play script) }
+        → Ended result (K.frugal sink.old) (D.story disk.old).reads (D.story disk.new).reads layout (K.taken sink.old) (K.taken sink.new) (play layout script) }
+    ensures whole { IsTrue D.tells → IsUndamaged result }
     ensures reason { HasReason result
         (record { source = S.faults source.old; sink = K.faults sink.old; disk = D.faults disk.old })
         (record { source = S.faults source.new; sink = K.faults sink.new; disk = D.faults disk.new }) }
@@ -306,7 +330,8 @@ fn run_words<S: Source, K: Sink, D: Disk>(
         × (why ≡ TooSmall (total_pages layout) (D.size disk.old)) }
     ensures untouched { IsTurnedAway result → K.taken sink.new ≡ K.taken sink.old }
     ensures ended { IsTrue D.tells → (layout : LayoutParts) → IsFresh words.now layout → (script : List ℕ) → S.left source.old ≡ Some script
-        → Ended result (K.frugal sink.old) (D.story disk.old).reads (D.story disk.new).reads layout (K.taken sink.old) (K.taken sink.new) (play script) }
+        → Ended result (K.frugal sink.old) (D.story disk.old).reads (D.story disk.new).reads layout (K.taken sink.old) (K.taken sink.new) (play layout script) }
+    ensures whole { IsTrue D.tells → IsUndamaged result }
     ensures reason { HasReason result
         (record { source = S.faults source.old; sink = K.faults sink.old; disk = D.faults disk.old })
         (record { source = S.faults source.new; sink = K.faults sink.new; disk = D.faults disk.new }) }
@@ -354,16 +379,20 @@ pub fn run_alone<S: Source, K: Sink, D: Disk>(
         → (layout : LayoutParts) × IsFresh words.now layout × (D.size disk < total_pages layout)
         × (why ≡ TooSmall (total_pages layout) (D.size disk)) }
 
-    // A fault only where the count of that end rose.
+    // Damage never, where the disk tells its pages.
+    ensures whole { IsTrue D.tells → IsUndamaged result.0 }
+
+    // A fault only where the count of that end rose, and damage only with two values that differ.
     ensures reason { HasReason result.0
         (record { source = S.faults source.old; sink = K.faults sink.old; disk = D.faults disk })
         (record { source = S.faults source.new; sink = K.faults sink.new; disk = D.faults result.1 }) }
 
-    // What the sink took and what the data pages have, over a known script: the play's text up to where the run ended,
-    // and then the closing line.
+    // What the sink took and what the disk has, over a known script: the play's text up to where the run ended, and then
+    // the closing line; each object that the play leaves stands in the data area, and no page of the disk has changed but
+    // those that its committed contents took there.
     ensures text { IsTrue D.tells → (layout : LayoutParts) → IsFresh words.now layout → (script : List ℕ) → S.left source.old ≡ Some script
         → (taken : Option (List ℕ))
-        × Ended result.0 (K.frugal sink.old) (D.story disk).reads (D.story result.1).reads layout (K.taken sink.old) taken (play script)
+        × Ended result.0 (K.frugal sink.old) (D.story disk).reads (D.story result.1).reads layout (K.taken sink.old) taken (play layout script)
         × Closed result.0 (K.frugal sink.old) (K.faults sink.old) (K.faults sink.new) taken (K.taken sink.new) }
 
     // Where nothing was run, the closing line alone.

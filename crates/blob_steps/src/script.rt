@@ -2,14 +2,13 @@
 
 ghost use Rattle.std.specs.Prelude.{◌≡◌, ◌==◌, ◌↔◌, map, option_map, option_and_then, bytes_eq, IfOk, IsTrue};
 ghost use Rattle.std.specs.List.{slice_split};
-ghost use Rattle.hex.specs.Hex.{decode_of};
 ghost use Rattle.store_model.specs.Key.{key_of};
-ghost use Rattle.store_model.specs.Script.{action_of, small_content, spelled_content, step_of_words};
+ghost use Rattle.store_model.specs.Script.{action_of, spelled_content, step_of_words};
 ghost use Rattle.store_model.specs.Turn as turn;
 ghost use Rattle.blob_steps.specs.Words.{model_action, model_step};
 
-use blob_base::{Bytes, Key, OutOfMemory};
-use hex::FromHexError;
+use blob_base::{Key, OutOfMemory};
+use blob_script::Content;
 use std::alloc::{AllocError, Global};
 
 /// What a session's line asks for.
@@ -19,7 +18,7 @@ pub(crate) enum Action {
     Commit,
     Get { key: Key },
     Stat { key: Key },
-    Put { key: Key, content: Bytes },
+    Put { key: Key, content: Content },
 }
 
 /// What a line asks for.
@@ -42,33 +41,6 @@ fn words_of(alloc: Global, line: &[u8]) -> Result<Vec<&[u8]>, AllocError>
     ensures { IfOk result (λ words. map (λ word. word.now) words.items ≡ slice_split (λ byte. byte == 32) line.now) }
 {
     line.split(|byte| *byte == b' ').collect(alloc)
-}
-
-// What hexadecimal digits spell, where that is at most 4095 bytes.
-fn decoded_content(alloc: Global, digits: &[u8]) -> Result<Option<Bytes>, OutOfMemory>
-    ensures { IfOk result (λ content. content ≡ small_content (decode_of digits.now)) }
-{
-    match hex::decode(alloc, digits) {
-        Ok(bytes) if bytes.len() <= 4095 => Ok(Some(Bytes::from_vec(bytes))),
-        Err(FromHexError::OutOfMemory) => Err(OutOfMemory),
-        _ => Ok(None),
-    }
-}
-
-// The content that a word spells, where it spells one: `x:` and the hexadecimal digits of at most 4095
-// bytes.
-fn content_of(alloc: Global, word: &[u8]) -> Result<Option<Bytes>, OutOfMemory>
-    ensures { IfOk result (λ content. content ≡ spelled_content word.now) }
-{
-    if word.len() < 2 {
-        return Ok(None);
-    }
-    let (mark, digits) = word.split_at(2);
-    if is(mark, b"x:") {
-        decoded_content(alloc, digits)
-    } else {
-        Ok(None)
-    }
 }
 
 // The action of the words behind the session, where they are one.
@@ -113,7 +85,7 @@ fn read_put(alloc: Global, key: &[u8], content: &[u8]) -> Result<Option<Action>,
     let Ok(key) = Key::read(key) else {
         return Ok(None);
     };
-    match content_of(alloc, content)? {
+    match Content::read(alloc, content)? {
         Some(content) => Ok(Some(Action::Put { key, content })),
         None => Ok(None),
     }

@@ -1,24 +1,31 @@
 // Sessions and their transactions.
 
-ghost use Rattle.std.specs.Prelude.{◌≡◌, ℕ, ◌<◌, ◌≤◌, length, Bool, Some, option_map, IfOk, IfErr, OnErr, IsTrue};
+ghost use Rattle.std.specs.Prelude.{◌≡◌, ℕ, ◌<◌, ◌≤◌, ◌%◌, ◌==◌, not, length, Bool, Some, option_map, IfOk, IfErr, OnErr, IsTrue};
+ghost use Rattle.store_model.specs.Disk.{page_bytes};
+ghost use Rattle.store_model.specs.Shape.{greatest_size};
 ghost use Rattle.std.specs.FinMap as map;
 ghost use Rattle.store_model.specs.Store.{Store, number_at};
 ghost use Rattle.store_model.specs.Transaction.{new_transaction, is_touched, touched_count, content_of};
 ghost use Rattle.store_model.specs.Turn.{is_one_too_many, look_turn, put_turn, turn};
 ghost use Rattle.store_model.specs.Turn as model;
+ghost use Rattle.blob_script.specs.Contents.{content_bytes};
 
 use crate::answer::AnswerLine;
 use crate::key_map::KeyMap;
+use crate::write::Place;
 use blob_base::{Bytes, Key, OutOfMemory};
-use blob_state::Draft;
+use blob_script::Content;
+use blob_state::{BlobState, Draft};
+use disk_model::PAGE_BYTES;
 use std::alloc::Global;
 use std::marker::Model;
 use std::mem;
+use tier_table::MAX_SIZE;
 
 // How many keys a transaction may touch.
 const MAX_KEYS: usize = 16;
 
-/// A change of a key: its new content, of at most 4095 bytes, and the draft of its state.
+/// A change of a key: its new content, and the draft of its state.
 #[derive(Drop)]
 pub(crate) struct Change {
     pub(crate) content: Bytes,
@@ -27,19 +34,77 @@ pub(crate) struct Change {
 
 impl Model for Change {
     ghost use Rattle.store_model.specs.Transaction as tr;
-    ghost use Rattle.blob_steps.specs.Coding.{IsSmallDraft};
+    ghost use Rattle.blob_steps.specs.Coding.{IsDraftFor};
 
     ghost Value = { tr.Change };
 
     ghost view = { λ change. tr.Put change.content };
 
-    ghost invariant = { λ change. IsSmallDraft change.draft.value change.content };
+    ghost invariant = { λ change. IsDraftFor change.content change.draft.value };
 }
 
 impl Change {
+    ghost use Rattle.store_model.specs.Holds.{place_of};
+    ghost use Rattle.store_model.specs.Places.{extent_count};
+    ghost use Rattle.store_model.specs.State.{IsNumber, IsState, Tells};
+    ghost use Rattle.store_model.specs.Transaction as tr;
     ghost use Rattle.store_model.specs.Transaction.{content_of};
     ghost use Rattle.blob_steps.specs.Answers.{model_line};
+    ghost use Rattle.blob_steps.specs.Fitting.{Fits};
     ghost use Rattle.blob_steps.specs.Sessions.{show_of};
+
+    // The change that puts a content.
+    fn put(alloc: Global, content: Bytes) -> Result<Change, OutOfMemory>
+        requires { length content ≤ greatest_size }
+        ensures { IfOk result (λ change. change ≡ tr.Put content) }
+    {
+        let Ok(draft) = Draft::put(content.as_slice()) else {
+            unreachable!()
+        };
+        let Ok(draft) = Box::new(alloc, draft) else {
+            return Err(OutOfMemory);
+        };
+        Ok(Change { content, draft })
+    }
+
+    /// How many extents its content has.
+    pub(crate) fn extents(&self) -> u32
+        ensures count { result ≡ extent_count (length (content_of self.now)) }
+        ensures most { result ≤ 127 }
+    {
+        // The rules of the draft bound their number.
+        let _size = self.draft.size();
+        self.draft.marks().len() as u32
+    }
+
+    /// Whether its content has a tail.
+    pub(crate) fn has_tail(&self) -> bool
+        ensures { result ≡ not (length (content_of self.now) % page_bytes == 0) }
+    {
+        self.content.len() % PAGE_BYTES != 0
+    }
+
+    /// Its content.
+    pub(crate) fn content(&self) -> &[u8]
+        ensures value { result.now ≡ content_of self.now }
+        ensures most { length result.now ≤ greatest_size }
+    {
+        // The rules of the draft bound its size.
+        let _size = self.draft.size();
+        self.content.as_slice()
+    }
+
+    /// The state of its content at this place, written by the entry of this number.
+    pub(crate) fn state_at(&self, place: &Place, number: u64) -> BlobState
+        requires fits { Fits (length (content_of self.now)) place.now }
+        requires number { IsNumber number }
+        ensures number { result.born ≡ number }
+        ensures place { place_of result ≡ place.now }
+        ensures tells { Tells result (content_of self.now) }
+        ensures rules { IsState result }
+    {
+        self.draft.place(&place.heads, place.tail, number)
+    }
 
     // What a look shows of its content.
     fn show(&self, alloc: Global, look: Look) -> Result<AnswerLine, OutOfMemory>
@@ -198,25 +263,21 @@ impl Transaction {
     }
 
     /// Puts a content under a key.
-    fn put(&mut self, alloc: Global, key: Key, content: Bytes) -> Result<AnswerLine, OutOfMemory>
-        requires { length content ≤ 4095 }
-        ensures turn { IfOk result (λ line. put_turn self.old key content
+    fn put(&mut self, alloc: Global, key: Key, content: &Content) -> Result<AnswerLine, OutOfMemory>
+        ensures turn { IfOk result (λ line. put_turn self.old key (content_bytes content.now)
             ≡ record { line = model_line line; session = model.Open self.new }) }
         ensures err { OnErr result (self.new ≡ self.old) }
     {
         if self.is_one_too_many(&key) {
             return Ok(AnswerLine::TooMany { keys: 17 });
         }
-        match Draft::put(content.as_slice()) {
-            Ok(draft) => {
-                let Ok(draft) = Box::new(alloc, draft) else {
-                    return Err(OutOfMemory);
-                };
-                self.changes.insert(key, Change { content, draft })?;
-                Ok(AnswerLine::Put)
-            }
-            Err(long) => Ok(AnswerLine::TooLong { size: long.size }),
+        let size = content.size();
+        if size > MAX_SIZE {
+            return Ok(AnswerLine::TooLong { size });
         }
+        let content = content.bytes(alloc)?;
+        self.changes.insert(key, Change::put(alloc, content)?)?;
+        Ok(AnswerLine::Put)
     }
 
     /// Its changes.
@@ -276,10 +337,9 @@ impl Session {
         &mut self,
         alloc: Global,
         key: Key,
-        content: Bytes,
+        content: &Content,
     ) -> Result<AnswerLine, OutOfMemory>
-        requires { length content ≤ 4095 }
-        ensures { IfOk result (λ line. (store : Store) → turn store (model_session self.old) (model.Put key content)
+        ensures { IfOk result (λ line. (store : Store) → turn store (model_session self.old) (model.Put key (content_bytes content.now))
             ≡ record { line = model_line line; session = model_session self.new }) }
     {
         match self {

@@ -2,21 +2,24 @@
 
 ghost use Rattle.std.specs.Prelude.{◌≡◌, ◌+◌, ◌≤◌, ◌++◌, length, codes, decimal};
 ghost use Rattle.blob_steps.specs.Endings.{ending_of, refusal_of};
-ghost use Rattle.store_model.specs.Answer.{line_end};
-ghost use Rattle.store_model.specs.Closing.{exit_status, closing_text, refusal_text, two_numbers};
+ghost use Rattle.hex.specs.Hex.{encode_lower};
+ghost use Rattle.store_model.specs.Answer.{line_end, two_numbers};
+ghost use Rattle.store_model.specs.Closing.{Damaged, exit_status, closing_text, reason_text, refusal_text};
 
 use arrayvec::ArrayVec;
-use blob_base::StoreRefusal;
+use blob_base::{Key, StoreRefusal};
 
 const MAX_CLOSING: usize = 256;
 
 /// How a run ended.
-#[derive(Clone, Copy, Debug, PartialEq, Eq)]
+#[derive(Debug, Drop, PartialEq, Eq)]
 pub enum Status {
     /// The script was read to its end.
     Done,
     /// This line is none of those that are built.
-    NotBuilt { line: u64 },
+    NotBuilt {
+        line: u64,
+    },
     /// The source failed.
     ReadFault,
     /// The sink failed.
@@ -24,11 +27,21 @@ pub enum Status {
     /// The disk failed.
     DiskFault,
     /// The disk isn't opened as a store.
-    Refused { why: StoreRefusal },
+    Refused {
+        why: StoreRefusal,
+    },
     /// There was no memory.
     OutOfMemory,
     /// The words are no form.
     Usage,
+    /// The pages of this key's content don't lead to what its state keeps. Its links are numbered: one for each extent,
+    /// and the last for the digest. This link is the first that fails: the state keeps `want`, and the pages give `got`.
+    Damaged {
+        key: Key,
+        link: u32,
+        want: [u8; 32],
+        got: [u8; 32],
+    },
 }
 
 impl Status {
@@ -44,6 +57,7 @@ impl Status {
             Status::Refused { .. } => 6,
             Status::OutOfMemory => 7,
             Status::Usage => 8,
+            Status::Damaged { .. } => 9,
             Status::NotBuilt { .. } => 10,
         }
     }
@@ -61,6 +75,12 @@ impl Status {
             Status::Refused { why } => refusal_line(why),
             Status::OutOfMemory => line_of(b"out of memory"),
             Status::Usage => line_of(b"usage"),
+            Status::Damaged {
+                key,
+                link,
+                want,
+                got,
+            } => damaged_line(key, *link, want, got),
         }
     }
 }
@@ -98,6 +118,34 @@ fn refusal_line(why: &StoreRefusal) -> ArrayVec<u8, MAX_CLOSING>
             line_with_number(b"store refused: owned-twice ", u64::from(*page))
         }
     }
+}
+
+// The line of a key whose content isn't what its state keeps.
+fn damaged_line(key: &Key, link: u32, want: &[u8; 32], got: &[u8; 32]) -> ArrayVec<u8, MAX_CLOSING>
+    ensures { result.items ≡ reason_text (Damaged key.now link want.now got.now) ++ line_end }
+{
+    let mut line = ArrayVec::new();
+    push_text(&mut line, b"damaged ");
+    push_text(&mut line, key.text());
+    push_text(&mut line, b" ");
+    push_number(&mut line, u64::from(link));
+    push_text(&mut line, b" ");
+    push_value(&mut line, want);
+    push_text(&mut line, b" ");
+    push_value(&mut line, got);
+    push_text(&mut line, b"\n");
+    line
+}
+
+// Puts a value in hexadecimal behind what is there.
+fn push_value(line: &mut ArrayVec<u8, MAX_CLOSING>, value: &[u8; 32])
+    requires { length line.old.items + 64 ≤ 256 }
+    ensures text { line.new.items ≡ line.old.items ++ encode_lower value.now }
+    ensures len { length line.new.items ≡ length line.old.items + 64 }
+{
+    let mut digits = [0; 64];
+    let _ = hex::encode_to_slice(value, &mut digits);
+    push_text(line, &digits);
 }
 
 // A text as a line.

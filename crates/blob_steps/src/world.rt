@@ -1,17 +1,16 @@
 // The world of a run: its store and its session.
 
-ghost use Rattle.std.specs.Prelude.{◌≡◌, ◌^◌, ℕ, ◌+◌, ◌*◌, ◌<◌, ◌≤◌, IsTrue, IfOk, OnOk, IsErrOf};
-ghost use Rattle.blob_base.specs.Faults.{Rose};
-ghost use Rattle.blob_base.specs.declared.faults.IoFault.TheVariants.{Failed};
+ghost use Rattle.std.specs.Prelude.{◌≡◌, ℕ, ◌+◌, ◌<◌, ◌≤◌, IsTrue, IfOk, IfErr, OnOk, MatchResult};
 ghost use Rattle.store_model.specs.Disk.{Image};
 ghost use Rattle.store_model.specs.Layout.{total_pages};
 ghost use Rattle.store_model.specs.Group.{World as ModelWorld, new_world};
 
 use crate::answer::{Answer, AnswerLine};
+use crate::fault::StepFault;
 use crate::script::{Action, Step};
 use crate::session::{Got, Look, Session};
 use crate::store::Store;
-use blob_base::{IoFault, Key};
+use blob_base::{Key, OutOfMemory};
 use disk_model::{Disk, Layout};
 use std::alloc::Global;
 use std::mem;
@@ -27,18 +26,21 @@ impl World {
     ghost use Rattle.blob_steps.specs.Answers.{model_line, text_of};
     ghost use Rattle.blob_steps.specs.Words.{model_action, model_step};
     ghost use Rattle.blob_steps.specs.Sessions.{look_action};
-    ghost use Rattle.blob_steps.specs.Steps.{Stands, IsTurn, IsLead, IsDone, IsPlayed, IsSmallAction, weight};
+    ghost use Rattle.blob_steps.specs.Faults.{IsStepFault, IsWhole};
+    ghost use Rattle.blob_steps.specs.Steps.{Stands, IsTurn, IsLead, IsDone, IsPlayed, weight};
+    ghost use Rattle.blob_steps.specs.Stores.{IsSound};
 
     /// An empty store, and no transaction.
-    pub(crate) fn new(alloc: Global, layout: Layout) -> World
-        ensures layout { result.store.layout ≡ layout }
-        ensures weight { weight result ≡ 0 }
-        ensures stands { (base : Image) → Stands base base result new_world }
+    pub(crate) fn new(alloc: Global, layout: Layout) -> Result<World, OutOfMemory>
+        ensures sound { IfOk result (λ world. IsSound world.store) }
+        ensures layout { IfOk result (λ world. world.store.layout ≡ layout) }
+        ensures weight { IfOk result (λ world. weight world ≡ 0) }
+        ensures stands { IfOk result (λ world. (base : Image) → Stands base base world new_world) }
     {
-        World {
-            store: Store::new(alloc, layout),
+        Ok(World {
+            store: Store::new(alloc, layout)?,
             session: Session::Free,
-        }
+        })
     }
 
     /// A step. After an `Err` nothing is said of the world.
@@ -47,17 +49,19 @@ impl World {
         alloc: Global,
         disk: &mut D,
         step: Step,
-    ) -> Result<Answer, IoFault>
+    ) -> Result<Answer, StepFault>
+        requires sound { IsSound self.old.store }
         requires played { IsPlayed (model_step step) }
         requires weight { weight self.old < 1024 }
         requires disk { total_pages self.old.store.layout ≤ D.size disk.old }
         ensures step { IsTrue D.tells → (base : Image) (world : ModelWorld) → Stands base (D.story disk.old).reads self.old world
-            → IfOk result (λ answer. IsDone base (D.story disk.new).reads world (model_step step) (text_of answer) self.new) }
+            → MatchResult result (λ answer. IsDone base (D.story disk.new).reads world (model_step step) (text_of answer) self.new) IsWhole }
         ensures weight { OnOk result (weight self.new ≤ weight self.old + 1) }
+        ensures sound { OnOk result (IsSound self.new.store) }
         ensures layout { self.new.store.layout ≡ self.old.store.layout }
         ensures size { D.size disk.new ≡ D.size disk.old }
         ensures faults { D.faults disk.old ≤ D.faults disk.new }
-        ensures failed { IsErrOf result Failed → Rose (D.faults disk.old) (D.faults disk.new) }
+        ensures fault { IfErr result (IsStepFault (D.faults disk.old) (D.faults disk.new)) }
         ensures frugal { D.frugal disk.new ≡ D.frugal disk.old }
     {
         match step {
@@ -75,16 +79,17 @@ impl World {
         alloc: Global,
         disk: &mut D,
         action: Action,
-    ) -> Result<AnswerLine, IoFault>
-        requires small { IsSmallAction (model_action action) }
+    ) -> Result<AnswerLine, StepFault>
+        requires sound { IsSound self.old.store }
         requires disk { total_pages self.old.store.layout ≤ D.size disk.old }
         ensures turn { IsTrue D.tells → (base : Image) (world : ModelWorld) → Stands base (D.story disk.old).reads self.old world
-            → IfOk result (λ line. IsTurn base (D.story disk.new).reads world (model_action action) (model_line line) self.new) }
+            → MatchResult result (λ line. IsTurn base (D.story disk.new).reads world (model_action action) (model_line line) self.new) IsWhole }
         ensures weight { OnOk result (weight self.new ≤ weight self.old + 1) }
+        ensures sound { OnOk result (IsSound self.new.store) }
         ensures layout { self.new.store.layout ≡ self.old.store.layout }
         ensures size { D.size disk.new ≡ D.size disk.old }
         ensures faults { D.faults disk.old ≤ D.faults disk.new }
-        ensures failed { IsErrOf result Failed → Rose (D.faults disk.old) (D.faults disk.new) }
+        ensures fault { IfErr result (IsStepFault (D.faults disk.old) (D.faults disk.new)) }
         ensures frugal { D.frugal disk.new ≡ D.frugal disk.old }
     {
         match action {
@@ -92,7 +97,7 @@ impl World {
             Action::Commit => Ok(self.session.commit()),
             Action::Get { key } => self.look(alloc, disk, Look::Get, &key),
             Action::Stat { key } => self.look(alloc, disk, Look::Stat, &key),
-            Action::Put { key, content } => Ok(self.session.put(alloc, key, content)?),
+            Action::Put { key, content } => Ok(self.session.put(alloc, key, &content)?),
         }
     }
 
@@ -103,15 +108,17 @@ impl World {
         disk: &mut D,
         look: Look,
         key: &Key,
-    ) -> Result<AnswerLine, IoFault>
+    ) -> Result<AnswerLine, StepFault>
+        requires sound { IsSound self.old.store }
         requires disk { total_pages self.old.store.layout ≤ D.size disk.old }
         ensures turn { IsTrue D.tells → (base : Image) (world : ModelWorld) → Stands base (D.story disk.old).reads self.old world
-            → IfOk result (λ line. IsTurn base (D.story disk.new).reads world (look_action look key.now) (model_line line) self.new) }
+            → MatchResult result (λ line. IsTurn base (D.story disk.new).reads world (look_action look key.now) (model_line line) self.new) IsWhole }
         ensures weight { OnOk result (weight self.new ≤ weight self.old + 1) }
+        ensures sound { OnOk result (IsSound self.new.store) }
         ensures layout { self.new.store.layout ≡ self.old.store.layout }
         ensures size { D.size disk.new ≡ D.size disk.old }
         ensures faults { D.faults disk.old ≤ D.faults disk.new }
-        ensures failed { IsErrOf result Failed → Rose (D.faults disk.old) (D.faults disk.new) }
+        ensures fault { IfErr result (IsStepFault (D.faults disk.old) (D.faults disk.new)) }
         ensures frugal { D.frugal disk.new ≡ D.frugal disk.old }
     {
         let now = self.store.number(key);
@@ -122,25 +129,24 @@ impl World {
     }
 
     // A lead. After an `Err` nothing is said of the world.
-    fn lead<D: Disk>(&mut self, alloc: Global, disk: &mut D) -> Result<Answer, IoFault>
+    fn lead<D: Disk>(&mut self, alloc: Global, disk: &mut D) -> Result<Answer, StepFault>
+        requires sound { IsSound self.old.store }
         requires weight { weight self.old < 1024 }
         requires disk { total_pages self.old.store.layout ≤ D.size disk.old }
         ensures lead { IsTrue D.tells → (base : Image) (world : ModelWorld) → Stands base (D.story disk.old).reads self.old world
-            → IfOk result (λ answer. IsLead base (D.story disk.new).reads world answer self.new) }
+            → MatchResult result (λ answer. IsLead base (D.story disk.new).reads world answer self.new) IsWhole }
         ensures weight { OnOk result (weight self.new ≤ weight self.old + 1) }
+        ensures sound { OnOk result (IsSound self.new.store) }
         ensures layout { self.new.store.layout ≡ self.old.store.layout }
         ensures size { D.size disk.new ≡ D.size disk.old }
         ensures faults { D.faults disk.old ≤ D.faults disk.new }
-        ensures failed { IsErrOf result Failed → Rose (D.faults disk.old) (D.faults disk.new) }
+        ensures fault { IfErr result (IsStepFault (D.faults disk.old) (D.faults disk.new)) }
         ensures frugal { D.frugal disk.new ≡ D.frugal disk.old }
     {
         match mem::replace(&mut self.session, Session::Free) {
             Session::Waiting { transaction } => {
-                let number = self.store.commit(alloc, disk, transaction.into_changes())?;
-                Ok(Answer::Session {
-                    session: 0,
-                    line: AnswerLine::Committed { number },
-                })
+                let line = self.store.commit(alloc, disk, transaction.into_changes())?;
+                Ok(Answer::Session { session: 0, line })
             }
             session => {
                 self.session = session;

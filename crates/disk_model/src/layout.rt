@@ -1,7 +1,7 @@
 // Which pages of a disk are what.
 
-ghost use Rattle.std.specs.Prelude.{◌≡◌, ◌<◌, ◌≤◌};
-ghost use Rattle.store_model.specs.Layout.{IsLayout, header_page, log_page, states_page, data_page, total_pages};
+ghost use Rattle.std.specs.Prelude.{◌≡◌, ◌%◌, ◌^◌, ◌<◌, ◌≤◌};
+ghost use Rattle.store_model.specs.Layout.{IsLayout, header_page, log_page, states_page, data_page, data_pages, total_pages};
 
 use std::marker::Model;
 
@@ -55,6 +55,15 @@ impl Layout {
         ensures { result ≡ states_page self.now half }
     {
         1027 + self.room * half
+    }
+
+    /// How many pages the data area has: a multiple of 1024, at most 2^24.
+    pub fn data_pages(&self) -> u32
+        ensures value { result ≡ data_pages self.now }
+        ensures most { result ≤ 2 ^ 24 }
+        ensures units { result % 1024 ≡ 0 }
+    {
+        1024 * self.units
     }
 
     /// The first page of the data area.

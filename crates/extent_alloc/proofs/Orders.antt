@@ -1,15 +1,11 @@
 -- Blocks in order.
-use Rattle.std.proofs.Common.{◌≡◌, ℕ, zero, suc, ◌+◌, ◌<◌, ◌≤◌, Bool, true, false, cond, ◌⊎◌, List, [], ◌∷◌, ◌++◌, length, take, drop, get_or, refl, sym, ◌∙◌, ap, subst, arith, inl, inr}
+use Rattle.std.proofs.Common.{◌≡◌, ℕ, zero, suc, ◌+◌, ◌<◌, ◌≤◌, Bool, true, false, cond, ◌⊎◌, List, [], ◌∷◌, ◌++◌, take, drop, refl, ◌∙◌, ap, arith, inl, inr}
 use Rattle.std.specs.Prelude.{Contains}
-use Rattle.std.specs.List.{insert, remove, sum_by}
-use Rattle.std.specs.List.Sorted.{IsPermutation}
 use Rattle.std.proofs.lemmas.Bool.{cases_Bool}
 use Rattle.std.proofs.lemmas.Bool.Decides.{nat_tests}
 use Rattle.std.proofs.lemmas.List.Elements.{Contains-append_cases}
-use Rattle.std.proofs.lemmas.List.Recursion.{is_sum_by}
-use Rattle.std.proofs.lemmas.List.Sorted.{sum_by-IsPermutation}
 use Rattle.store_model.specs.Space.{Apart, Block, end_of, lies_in, owners}
-use Rattle.extent_alloc.specs.Order.{AllBelow, AllFrom, AreSorted, InOrder}
+use Rattle.extent_alloc.specs.Order.{AllBelow, AllFrom, InOrder}
 
 -- an element of a list with one more at its front
 pub contains-head : {X : Type 0} (x : X) (xs : List X) → Contains (x ∷ xs) x
@@ -40,17 +36,6 @@ lies_in-before page block less = grind (arith, nat_tests)
 
 pub lies_in-behind : (page : ℕ) (block : Block) → end_of block ≤ page → lies_in page block ≡ false
 lies_in-behind page block le = grind (arith, nat_tests)
-
-one_or_none : (b : Bool) (n : ℕ) → cond b (1 + n) n ≡ cond b 1 0 + n
-one_or_none true n = refl
-one_or_none false n = omega arith
-
--- how many own a page doesn't hang on the order
-pub owners-permutation : (xs ys : List Block) (page : ℕ) → IsPermutation xs ys → owners ys page ≡ owners xs page
-owners-permutation xs ys page moves =
-    let counts : (zs : List Block) → owners zs page ≡ sum_by (λ block. cond (lies_in page block) 1 0) zs =
-    is_sum_by (λ zs. owners zs page) (λ block. cond (lies_in page block) 1 0) refl (λ block zs. one_or_none (lies_in page block) (owners zs page)) in
-    counts ys ∙ sum_by-IsPermutation (λ (block : Block). cond (lies_in page block) 1 0) xs ys moves ∙ sym (counts xs)
 
 -- no block that ends before a page has it, nor one that begins behind it
 pub owners-below : (blocks : List Block) (bound page : ℕ) → AllBelow bound blocks → bound ≤ page → owners blocks page ≡ 0

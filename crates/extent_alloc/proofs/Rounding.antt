@@ -1,5 +1,5 @@
 -- Multiples.
-use Rattle.std.proofs.Common.{◌≡◌, ℕ, suc, ◌+◌, ◌-◌, ◌*◌, ◌/◌, ◌%◌, ◌<◌, ◌≤◌, sym, arith}
+use Rattle.std.proofs.Common.{◌≡◌, ℕ, ◌+◌, ◌-◌, ◌*◌, ◌/◌, ◌%◌, ◌<◌, ◌≤◌, arith}
 use Rattle.std.proofs.Math.Nat.{div-lt_iff_lt-mul, mod-add-div', mul-le-mul_right}
 
 -- Rounded up, a number isn't above a multiple that isn't below it.

@@ -1,16 +1,16 @@
 -- The scans of blocks in order.
-use Rattle.std.proofs.Common.{◌≡◌, ℕ, zero, suc, ◌+◌, ◌%◌, ◌^◌, ◌<◌, ◌≤◌, Bool, true, false, cond, List, [], ◌∷◌, ◌++◌, take, drop, length, get_or, max, refl, sym, ◌∙◌, ap, subst, arith, inl, inr, ◌⊎◌}
-use Rattle.std.specs.Prelude.{Contains, IsTrue}
+use Rattle.std.proofs.Common.{◌≡◌, ℕ, zero, suc, ◌+◌, ◌%◌, ◌^◌, ◌<◌, ◌≤◌, Bool, true, false, cond, List, [], ◌∷◌, ◌++◌, take, drop, length, get_or, max, refl, sym, ◌∙◌, ap, subst, arith, inl, inr}
+use Rattle.std.specs.Prelude.{Contains}
 use Rattle.std.proofs.Math.Seq.{take-suc, drop-cons}
 use Rattle.std.proofs.lemmas.List.{take-append-drop}
-use Rattle.std.proofs.lemmas.List.Elements.{Contains-append_cases, Contains-append_left, Contains-append_right}
+use Rattle.std.proofs.lemmas.List.Elements.{Contains-append_cases, Contains-append_right}
 use Rattle.std.proofs.Math.Nat.{mod-eq_of_lt}
 use Rattle.std.proofs.lemmas.Bool.{cases_lt}
 use Rattle.std.proofs.lemmas.Nat.{pow_pos}
 use Rattle.store_model.specs.Shape.{pages_of_tier}
-use Rattle.store_model.specs.Space.{AreBlocks, Block, IsBlock, IsFree, IsFull, IsLeastFree, IsLeastOwnedTwice, end_of, lies_in, owners}
+use Rattle.store_model.specs.Space.{AreBlocks, Block, IsFree, IsFull, IsLeastFree, IsLeastOwnedTwice, end_of, lies_in, owners}
 use Rattle.extent_alloc.specs.Order.{AllBelow, AllFrom, AreSorted, InOrder}
-use Rattle.extent_alloc.proofs.Orders.{Apart-InOrder, InOrder-append, InOrder-drop, contains-cases, contains-head, contains-none, contains-tail, contains-take, lies_in-from, lies_in-to, lies_in-yes, owners-below, owners-from, owners-some}
+use Rattle.extent_alloc.proofs.Orders.{Apart-InOrder, InOrder-append, contains-cases, contains-head, contains-none, contains-tail, lies_in-from, lies_in-to, lies_in-yes, owners-below, owners-from, owners-some}
 
 -- an element is there at its index
 pub contains-at : {X : Type 0} (xs : List X) (i : ℕ) (d : X) → i < length xs → Contains xs (get_or xs i d)

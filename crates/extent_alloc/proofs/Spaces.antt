@@ -1,5 +1,5 @@
 -- What taking and giving back a block does to a space.
-use Rattle.std.proofs.Common.{◌≡◌, ℕ, zero, suc, ◌+◌, ◌-◌, ◌%◌, ◌^◌, ◌<◌, ◌≤◌, Bool, true, false, cond, List, [], ◌∷◌, ◌++◌, take, drop, length, get_or, Result, Ok, Err, refl, sym, ◌∙◌, ap, subst, arith, inl, inr}
+use Rattle.std.proofs.Common.{◌≡◌, ℕ, zero, suc, ◌+◌, ◌<◌, ◌≤◌, Bool, false, cond, List, [], ◌∷◌, ◌++◌, take, drop, length, get_or, Result, refl, sym, ◌∙◌, ap, subst, arith, inl, inr}
 use Rattle.std.specs.Prelude.{Contains, IsOk, is_ok}
 use Rattle.std.specs.List.{insert, remove}
 use Rattle.std.specs.List.Sorted.{IsPermutation, IsSorted}
@@ -9,11 +9,11 @@ use Rattle.std.specs.declared.cmp.Ordering.TheVariants.{Less}
 use Rattle.std.specs.Cmp.{nat_cmp_is}
 use Rattle.std.proofs.lemmas.Bool.{cases_lt}
 use Rattle.std.proofs.lemmas.List.Sorted.{IsPermutation-insert, IsPermutation-remove, IsPermutation-sym, Contains-permutation}
-use Rattle.store_model.specs.Shape.{pages_of_tier}
-use Rattle.store_model.specs.Space.{Apart, AreBlocks, Block, IsBlock, IsLeastFree, IsLeastOwnedTwice, end_of, owners}
+use Rattle.store_model.specs.Space.{Apart, AreBlocks, Block, IsBlock, IsLeastFree, IsLeastOwnedTwice, end_of}
 use Rattle.extent_alloc.specs.Order.{AllBelow, AllFrom, AreSorted, InOrder}
-use Rattle.extent_alloc.proofs.Orders.{InOrder-append, InOrder-drop, InOrder-take, contains-cases, contains-head, contains-none, contains-tail, owners-permutation}
-use Rattle.extent_alloc.proofs.Scans.{before-at, behind-at}
+use Rattle.extent_alloc.proofs.Orders.{InOrder-append, InOrder-drop, InOrder-take, contains-cases, contains-none, contains-tail}
+use Rattle.store_model.proofs.PlaceLaws.{owners-permutation}
+use Rattle.extent_alloc.proofs.Scans.{before-at}
 
 insert-is : {X : Type 0} (xs : List X) (i : ℕ) (x : X) → insert xs i x ≡ take i xs ++ x ∷ drop i xs
 insert-is xs i x = refl

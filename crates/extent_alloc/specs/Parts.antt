@@ -1,5 +1,5 @@
 -- A space, as contracts see it.
-use Rattle.std.specs.Prelude.{ℕ, ◌+◌, ◌^◌, ◌≤◌, ◌≡◌, ◌%◌, List}
+use Rattle.std.specs.Prelude.{ℕ, ◌+◌, ◌^◌, ◌≤◌, List}
 use Rattle.std.specs.Vec.{vec_capacity, vec_len}
 use Rattle.store_model.specs.Space.{AreBlocks, Block}
 use Rattle.extent_alloc.specs.Order.{InOrder}

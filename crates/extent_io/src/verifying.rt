@@ -1,6 +1,6 @@
 // Verifying a content, link by link.
 
-ghost use Rattle.std.specs.Prelude.{◌≡◌, ℕ, ◌+◌, ◌*◌, ◌/◌, ◌%◌, ◌<◌, ◌≤◌, List, length, min, Ok, IsTrue, IfOk, OnOk, IfErr};
+ghost use Rattle.std.specs.Prelude.{◌≡◌, ◌≢◌, ℕ, ◌+◌, ◌*◌, ◌/◌, ◌%◌, ◌<◌, ◌≤◌, List, length, min, Ok, IsTrue, IfOk, OnOk, IfErr};
 ghost use Rattle.blob_base.specs.Faults.{HasCause};
 ghost use Rattle.store_model.specs.Disk.{page_bytes};
 ghost use Rattle.store_model.specs.Hash.{bytes_of_state, close, state_after};
@@ -31,6 +31,9 @@ pub fn verify<D: Disk>(disk: &mut D, layout: Layout, state: &BlobState) -> Resul
     ensures whole { IsTrue D.tells → result ≡ Ok Whole → Verifies (D.story disk.old).reads (data_page layout) state.now }
     ensures damaged { IsTrue D.tells → (link : ℕ) (want got : List ℕ) → result ≡ Ok (Damaged link want got)
         → FailsFirst (D.story disk.old).reads (data_page layout) state.now link want got }
+    // Whatever the disk tells, the two values are different ones.
+    ensures differ { (link : ℕ) (want got : List ℕ) → result ≡ Ok (Damaged link want got) → want ≢ got }
+
     // Each page of a whole content is read once.
     ensures reads { IsTrue D.tells → result ≡ Ok Whole → Took (pages_from state.now.size 0) 0 (D.calls disk.old) (D.calls disk.new) }
     ensures images { IsTrue D.tells → Stayed (D.story disk.old) (D.story disk.new) }

@@ -3,4 +3,3 @@ pub mod Copies
 pub mod Encoded
 pub mod Relations
 pub mod Searches
-pub mod Sorted

@@ -17,7 +17,7 @@ use Rattle.store_model.specs.State.{State}
 use Rattle.relation.specs.Entries.{AllBefore, AllBehind, IsAt, are_sorted, entries_of, entry_of}
 use Rattle.relation.specs.declared.entries.Entry.{Entry}
 use Rattle.relation.proofs.Searches.{length-entries, slice_get-entries}
-use Rattle.relation.proofs.Sorted.{find-at, find-none, greater-less, less-greater, keys_exact, keys_total, kept-others, put-new, put-old, untied-greater, untied-less}
+use Rattle.store_model.proofs.SortedLaws.{find-at, find-none, greater-less, less-greater, keys_exact, keys_total, kept-others, put-new, put-old, untied-greater, untied-less}
 
 -- places are added until there are n
 pub record Filling (n old old_room new room : ℕ) : Type 0 where

@@ -9,7 +9,7 @@ use Rattle.store_model.specs.State.{State}
 use Rattle.std.proofs.lemmas.List.{length-map}
 use Rattle.relation.specs.Entries.{AllBefore, AllBehind, IsAt, are_sorted, entries_of, entry_of}
 use Rattle.relation.specs.declared.entries.Entry.{Entry}
-use Rattle.relation.proofs.Sorted.{greater-less, less-greater, keys_total, keys_exact, sorted-at}
+use Rattle.store_model.proofs.SortedLaws.{greater-less, less-greater, keys_total, keys_exact, sorted-at}
 
 -- the keys before `low` are lesser, and those from `high` on greater
 pub record Searching (entries : List (List ℕ × State)) (key : List ℕ) (low high : ℕ) : Type 0 where

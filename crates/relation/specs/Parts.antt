@@ -1,5 +1,5 @@
 -- A relation, as contracts see it.
-use Rattle.std.specs.Prelude.{ℕ, ◌+◌, ◌^◌, ◌<◌, ◌≤◌, ◌≡◌, List, [], ◌∷◌, length, Option, refl}
+use Rattle.std.specs.Prelude.{ℕ, ◌+◌, ◌^◌, ◌<◌, ◌≤◌, ◌≡◌, List, length, Option, refl}
 use Rattle.std.specs.Coded.{Coded, code_by, coded×, coded_list, coded_option, coded_ℕ}
 use Rattle.std.specs.Vec.{vec_capacity, vec_len}
 use Rattle.std.specs.FinMap.{FinMap, code, entries, from_sorted}
@@ -7,9 +7,8 @@ use Rattle.store_model.specs.Key.{key_order}
 use Rattle.store_model.specs.Holds.{place_of}
 use Rattle.store_model.specs.Space.{Block, blocks_of}
 use Rattle.store_model.specs.State.{Extent, State}
-use Rattle.store_model.specs.Shape.{tier_of}
 use Rattle.store_model.specs.Tuple.{spelling}
-use Rattle.std.specs.List.{enumerate_from, flat_map, sum_by}
+use Rattle.std.specs.List.{flat_map, sum_by}
 use Rattle.relation.specs.declared.relation.Relation.TheInside.{Inside}
 use Rattle.relation.specs.Entries.{are_sorted, entries_of}
 
@@ -50,10 +49,6 @@ pub record IsSound (r : Inside) : Type 0 where
   pub back : vec_len r.entries + vec_len r.free ≤ vec_capacity r.free
   pub bytes : r.bytes ≡ encoded_bytes (entries_of r.entries.items)
   pub few : r.bytes < 2 ^ 62
-
--- the blocks of extents with these heads, in order
-abbrev pub extent_blocks : List ℕ → List Block
-extent_blocks heads = flat_map (λ head. (head.1, tier_of head.0) ∷ []) (enumerate_from 0 heads)
 
 -- the blocks of states by their keys, one behind the other
 abbrev pub blocks_by : List (List ℕ × State) → List Block

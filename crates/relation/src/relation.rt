@@ -1,22 +1,17 @@
 // The relation of a store.
 
-ghost use Rattle.std.specs.Prelude.{◌≡◌, ◌+◌, ◌-◌, ◌<◌, ◌≤◌, ◌⊎◌, Some, IsTrue, if◌then◌else◌, slice_get, option_copied, vec_len, vec_capacity, length, IfOk, OnOk, OnErr};
-ghost use Rattle.std.specs.Prelude.{◌++◌, ◌==◌, ◌^◌};
+ghost use Rattle.std.specs.Prelude.{◌≡◌, ◌+◌, ◌-◌, ◌^◌, ◌<◌, ◌≤◌, ◌==◌, ◌⊎◌, Some, IsTrue, if◌then◌else◌, slice_get, option_copied, vec_len, vec_capacity, IfOk, OnOk, OnErr};
 ghost use Rattle.std.specs.FinMap as map;
-ghost use Rattle.store_model.specs.Space.{tail_blocks};
-ghost use Rattle.store_model.specs.State.{heads_of};
-ghost use Rattle.blob_state.specs.Values.{extents_of};
-ghost use Rattle.relation.specs.Parts.{blocks_by, encoded_by, extent_blocks, owned_by};
+ghost use Rattle.relation.specs.Parts.{blocks_by, encoded_by, owned_by};
 ghost use Rattle.relation.specs.Entries.{entries_of};
 
 use crate::entries::{Entry, search};
 use arrayvec::ArrayVec;
 use blob_base::{Key, OutOfMemory, Owned};
-use blob_state::{BlobState, Draft, Extent};
+use blob_state::{BlobState, Draft};
 use std::alloc::Global;
 use std::marker::Model;
 use std::mem;
-use tier_table::tier;
 
 /// States by their keys. `spare` more keys can be set without taking memory, and a state that is set stays where it is
 /// until it is removed.
@@ -139,12 +134,14 @@ impl Relation {
         Ok(())
     }
 
-    /// Sets the state of a key. Where the key isn't there, this takes a spare place. The bytes of all states stay below 2^62.
+    /// Sets the state of a key. Where the key isn't there, this takes a spare place. A state takes at most 4717 bytes where
+    /// it is stored.
     pub fn set(&mut self, key: Key, state: BlobState)
         requires spare { IsTrue (map.contains_key self.old.states key) ⊎ (1 ≤ self.old.spare) }
-        requires bytes { encoded_by (map.insert self.old.states key state) < 2 ^ 62 }
+        requires bytes { encoded_by self.old.states ≤ 2 ^ 61 }
         ensures states { self.new.states ≡ map.insert self.old.states key state }
         ensures spare { self.new.spare ≡ (if map.contains_key self.old.states key then self.old.spare else self.old.spare - 1) }
+        ensures bytes { encoded_by self.new.states ≤ encoded_by self.old.states + 4717 }
     {
         let longer = state.encoded(&key) as u64;
         match search(&self.entries, &key) {
@@ -232,30 +229,7 @@ fn blocks_by(alloc: Global, entries: &[Entry]) -> Result<Owned, OutOfMemory>
 {
     let mut owned = Owned::new(alloc);
     'listed: for i in 0..entries.len() {
-        let state = &entries[i].state;
-        add_extents(alloc, state.extents(), &mut owned)?;
-        add_tail(alloc, state.tail(), &mut owned)?;
+        entries[i].state.add_owned(alloc, &mut owned)?;
     }
     Ok(owned)
-}
-
-// Adds the heads of extents, each with its tier.
-fn add_extents(alloc: Global, extents: &[Extent], owned: &mut Owned) -> Result<(), OutOfMemory>
-    requires { length extents.now ≤ 127 }
-    ensures { OnOk result (owned.new ≡ owned.old ++ extent_blocks (heads_of (extents_of extents.now))) }
-{
-    'added: for i in 0..extents.len() {
-        owned.push(alloc, (extents[i].head, tier(i as u32)))?;
-    }
-    Ok(())
-}
-
-// Adds a tail's page.
-fn add_tail(alloc: Global, tail: Option<u32>, owned: &mut Owned) -> Result<(), OutOfMemory>
-    ensures { OnOk result (owned.new ≡ owned.old ++ tail_blocks tail) }
-{
-    match tail {
-        Some(page) => owned.push(alloc, (page, 0)),
-        None => Ok(()),
-    }
 }

@@ -6,3 +6,12 @@ pub mod StateLaws
 pub mod FieldLaws
 pub mod TupleLaws
 pub mod TupleFieldLaws
+pub mod FitLaws
+pub mod VerifyLaws
+pub mod StoredLaws
+pub mod CountLaws
+pub mod HeldLaws
+pub mod OrderLaws
+pub mod SortedLaws
+pub mod EntryLaws
+pub mod BlockLaws

@@ -2,10 +2,13 @@
 -- pages of the content stand on the same one.
 use Rattle.std.proofs.Common.{◌≡◌, ℕ, zero, suc, ◌+◌, ◌<◌, ◌≤◌, inl, inr, List, [], ◌∷◌, ◌++◌, Bool, true, false, cond, refl, sym, ap, ◌∙◌, subst, arith}
 use Rattle.std.specs.Prelude.{Contains, Option, Some, slice_get}
-use Rattle.std.specs.List.{enumerate_from, flat_map}
+use Rattle.std.specs.List.{enumerate_from, flat_map, sum_by}
+use Rattle.std.specs.List.Sorted.{IsPermutation}
 use Rattle.std.proofs.lemmas.Bool.{cases_order}
 use Rattle.std.proofs.lemmas.Bool.Decides.{nat_tests}
 use Rattle.std.proofs.lemmas.List.Elements.{Contains-append_left, Contains-append_right}
+use Rattle.std.proofs.lemmas.List.Recursion.{is_sum_by}
+use Rattle.std.proofs.lemmas.List.Sorted.{sum_by-IsPermutation}
 use Rattle.store_model.specs.Holds.{StandsAt}
 use Rattle.store_model.specs.Shape.{held_by, tier_of}
 use Rattle.store_model.specs.Space.{Apart, AreBlocks, Block, IsBlock, blocks_of, end_of, lies_in, owners, tail_blocks}
@@ -49,12 +52,23 @@ one-more true n = omega arith
 one-more false n = omega arith
 
 -- the owners in two lists
-owners-append : (xs ys : List Block) (page : ℕ) → owners (xs ++ ys) page ≡ owners xs page + owners ys page
+pub owners-append : (xs ys : List Block) (page : ℕ) → owners (xs ++ ys) page ≡ owners xs page + owners ys page
 owners-append [] ys page = omega arith
 owners-append (x ∷ xs) ys page = cond-add (lies_in page x) (owners xs page) (owners ys page) (owners (xs ++ ys) page) (owners-append xs ys page)
 
+one_or_none : (b : Bool) (n : ℕ) → cond b (1 + n) n ≡ cond b 1 0 + n
+one_or_none true n = refl
+one_or_none false n = omega arith
+
+-- how many own a page doesn't hang on the order
+pub owners-permutation : (xs ys : List Block) (page : ℕ) → IsPermutation xs ys → owners ys page ≡ owners xs page
+owners-permutation xs ys page moves =
+    let counts : (zs : List Block) → owners zs page ≡ sum_by (λ block. cond (lies_in page block) 1 0) zs =
+    is_sum_by (λ zs. owners zs page) (λ block. cond (lies_in page block) 1 0) refl (λ block zs. one_or_none (lies_in page block) (owners zs page)) in
+    counts ys ∙ sum_by-IsPermutation (λ (block : Block). cond (lies_in page block) 1 0) xs ys moves ∙ sym (counts xs)
+
 -- an extent that a page lies in owns it
-extent-owns : (heads : List ℕ) (n i head page : ℕ) → slice_get heads i ≡ Some head → lies_in page (head, tier_of (n + i)) ≡ true
+pub extent-owns : (heads : List ℕ) (n i head page : ℕ) → slice_get heads i ≡ Some head → lies_in page (head, tier_of (n + i)) ≡ true
     → 1 ≤ owners (extent_blocks n heads) page
 extent-owns [] n i head page is lies = absurd (cc is)
 extent-owns (h ∷ heads) n zero head page is lies =
@@ -92,7 +106,7 @@ extents-own (h ∷ heads) n (suc i) (suc j) one other page less is also lies too
     omega (arith, behind, one-more (lies_in page (h, tier_of n)) (owners (extent_blocks (n + 1) heads) page))
 
 -- the extent that a full page stands in
-stands-lies : (place : Place) (page at : ℕ) (stands : StandsAt place page at) → lies_in at (stands.head, tier_of stands.extent) ≡ true
+pub stands-lies : (place : Place) (page at : ℕ) (stands : StandsAt place page at) → lies_in at (stands.head, tier_of stands.extent) ≡ true
 stands-lies place page at stands =
     lies_in-yes at (stands.head, tier_of stands.extent) (omega (arith, stands.at_is)) (omega (arith, stands.at_is, stands.lies.within))
 
@@ -125,7 +139,8 @@ StandsAt-one place page a b one other =
 extents-apart : (place : Place) (page : ℕ) → Apart (blocks_of place) → owners (extent_blocks 0 place.heads) page + owners (tail_blocks place.tail) page ≤ 1
 extents-apart place page apart = omega (arith, owners-append (extent_blocks 0 place.heads) (tail_blocks place.tail) page, apart page)
 
-lies-zero : (page head extent : ℕ) → lies_in page (head, tier_of extent) ≡ true → lies_in page (head, tier_of (0 + extent)) ≡ true
+-- the same, where the first extent is counted as number 0
+pub lies-zero : (page head extent : ℕ) → lies_in page (head, tier_of extent) ≡ true → lies_in page (head, tier_of (0 + extent)) ≡ true
 lies-zero page head extent lies = let number : extent ≡ 0 + extent = omega arith in subst (λ (m : ℕ). lies_in page (head, tier_of m) ≡ true) number lies
 
 -- no two full pages stand on one page
@@ -143,7 +158,8 @@ StandsAt-apart place p q at apart one other =
       | inr (inr more) ↦ absurd (omega (arith, most, extents-own place.heads 0 other.extent one.extent other.head one.head at more other.there one.there there here))
     ]
 
-tail-own : (at : ℕ) → owners ((at, 0) ∷ []) at ≡ 1
+-- a tail's block owns its page
+pub tail-own : (at : ℕ) → owners ((at, 0) ∷ []) at ≡ 1
 tail-own at = let here : lies_in at (at, 0) ≡ true = lies_in-yes at (at, 0) (omega arith) (omega arith) in rw here refl
 
 -- no full page stands on the tail page

@@ -17,6 +17,8 @@ pub data AnswerLine : Type 0 where
   Stale : Option ℕ → AnswerLine
   Absent : AnswerLine
   Committed : ℕ → AnswerLine
+  NoSpace : List ℕ → ℕ → AnswerLine
+  NoRoom : ℕ → ℕ → AnswerLine
 
 -- the end of a line
 abbrev pub line_end : List ℕ
@@ -31,6 +33,10 @@ hex_text (byte ∷ bytes) = encode_lower (byte ∷ bytes)
 abbrev pub number_text : Option ℕ → List ℕ
 number_text (Some n) = decimal n
 number_text None = codes "none"
+
+-- two numbers, parted by a blank
+abbrev pub two_numbers : ℕ → ℕ → List ℕ
+two_numbers m n = decimal m ++ codes " " ++ decimal n
 
 -- what stands behind the session
 abbrev pub line_text : AnswerLine → List ℕ
@@ -47,6 +53,8 @@ line_text (TooLong size) = codes "too-long " ++ decimal size
 line_text (Stale now) = codes "stale " ++ number_text now
 line_text Absent = codes "absent"
 line_text (Committed number) = codes "committed " ++ decimal number
+line_text (NoSpace key tier) = codes "no-space " ++ key ++ codes " " ++ decimal tier
+line_text (NoRoom need have) = codes "no-room " ++ two_numbers need have
 
 -- a session's answer, as a line
 abbrev pub answer_text : ℕ → AnswerLine → List ℕ

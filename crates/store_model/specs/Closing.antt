@@ -1,6 +1,7 @@
 -- The line that closes the output of a run that didn't end well, and the program's exit status.
 use Rattle.std.specs.Prelude.{ℕ, List, [], ◌++◌, Option, Some, None, codes, decimal}
-use Rattle.store_model.specs.Answer.{line_end}
+use Rattle.hex.specs.Hex.{encode_lower}
+use Rattle.store_model.specs.Answer.{line_end, two_numbers}
 
 -- why a disk isn't opened as a store
 pub data Refusal : Type 0 where
@@ -19,10 +20,7 @@ pub data Ending : Type 0 where
   Refused : Refusal → Ending
   OutOfMemory : Ending
   Usage : Ending
-
--- two numbers, parted by a blank
-abbrev pub two_numbers : ℕ → ℕ → List ℕ
-two_numbers m n = decimal m ++ codes " " ++ decimal n
+  Damaged : List ℕ → ℕ → List ℕ → List ℕ → Ending
 
 abbrev pub refusal_text : Refusal → List ℕ
 refusal_text (TooSmall need have) = codes "too-small " ++ two_numbers need have
@@ -39,6 +37,7 @@ reason_text DiskFault = codes "disk fault"
 reason_text (Refused why) = codes "store refused: " ++ refusal_text why
 reason_text OutOfMemory = codes "out of memory"
 reason_text Usage = codes "usage"
+reason_text (Damaged key link want got) = codes "damaged " ++ key ++ codes " " ++ decimal link ++ codes " " ++ encode_lower want ++ codes " " ++ encode_lower got
 
 -- the closing line; a run that ended well has none
 abbrev pub closing_text : Option Ending → List ℕ
@@ -55,3 +54,4 @@ exit_status (Some DiskFault) = 5
 exit_status (Some (Refused why)) = 6
 exit_status (Some OutOfMemory) = 7
 exit_status (Some Usage) = 8
+exit_status (Some (Damaged key link want got)) = 9

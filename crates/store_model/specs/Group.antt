@@ -1,21 +1,27 @@
 -- The world that a script's lines change, and a lead: the commit of a group of queued requests.
-use Rattle.std.specs.Prelude.{ℕ, ◌+◌, ◌==◌, Bool, true, false, List, [], ◌∷◌, ◌++◌, length, filter, Some, None, if◌then◌else◌}
-use Rattle.store_model.specs.Store.{Store, Place, empty_store}
-use Rattle.store_model.specs.Transaction.{Transaction, new_transaction, apply, contents_of}
+use Rattle.std.specs.Prelude.{ℕ, ◌+◌, ◌*◌, ◌==◌, List, [], ◌∷◌, ◌++◌, if◌then◌else◌}
+use Rattle.std.specs.List.{flat_map}
+use Rattle.store_model.specs.Disk.{page_bytes}
+use Rattle.store_model.specs.Layout.{Layout, data_pages}
+use Rattle.store_model.specs.Judgement.{Commits, Judgement, NoRoom, NoSpace, judge}
+use Rattle.store_model.specs.Space.{Block, blocks_of}
+use Rattle.store_model.specs.Store.{Store, empty_store}
+use Rattle.store_model.specs.Transaction.{Transaction, new_transaction, apply}
 use Rattle.store_model.specs.Turn.{Session, Free, Open, Waiting}
-use Rattle.store_model.specs.Answer.{Committed, answer_text, idle_text}
+use Rattle.store_model.specs.Answer as answer
+use Rattle.store_model.specs.Answer.{AnswerLine, answer_text, idle_text}
 
--- The store, the sessions by their numbers, those whose requests are queued in the order of their commits, and the
--- contents committed so far that have a byte, in the order in which they were written to data pages.
+-- The store, the sessions by their numbers, those whose requests are queued, in the order of their commits, and the blocks
+-- that committed contents took, those of later requests first.
 pub record World : Type 0 where
   pub store : Store
   pub sessions : ℕ → Session
   pub queue : List ℕ
-  pub poured : List (List ℕ)
+  pub taken : List Block
 
 -- an empty store, and no session with a transaction
 abbrev pub new_world : World
-new_world = record { store = empty_store; sessions = λ _. Free; queue = []; poured = [] }
+new_world = record { store = empty_store; sessions = λ _. Free; queue = []; taken = [] }
 
 -- the sessions with another state of one of them
 abbrev pub with_session : (ℕ → Session) → ℕ → Session → ℕ → Session
@@ -27,48 +33,58 @@ transaction_of Free = new_transaction
 transaction_of (Open transaction) = transaction
 transaction_of (Waiting transaction) = transaction
 
--- a content takes a page where it has a byte
-abbrev pub has_bytes : List ℕ → Bool
-has_bytes [] = false
-has_bytes (byte ∷ bytes) = true
-
--- the place of a content of less than a page, where this data page is the next; an empty content takes none
-abbrev pub tail_place : ℕ → List ℕ → Place
-tail_place page [] = record { heads = []; tail = None }
-tail_place page (byte ∷ bytes) = record { heads = []; tail = Some page }
-
--- the next data page behind such a content
-abbrev pub page_behind : ℕ → List ℕ → ℕ
-page_behind page [] = page
-page_behind page (byte ∷ bytes) = page + 1
-
--- the places of contents of less than a page, which take the data pages from this one on
-abbrev pub tail_places : ℕ → List (List ℕ) → List Place
-tail_places page [] = []
-tail_places page (content ∷ contents) = tail_place page content ∷ tail_places (page_behind page content) contents
-
 -- what a lead prints, and the world after it
 pub record Led : Type 0 where
   pub text : List ℕ
   pub world : World
 
--- the commit of a session's transaction, with the sessions that are still queued behind it
-abbrev pub commit : World → ℕ → Transaction → List ℕ → Led
-commit world session transaction queue = record {
-  text = answer_text session (Committed (world.store.last + 1));
+-- the line that answers a request that was judged so
+abbrev pub reply_line : Store → Judgement → AnswerLine
+reply_line store (Commits places) = answer.Committed (store.last + 1)
+reply_line store (NoSpace key tier) = answer.NoSpace key tier
+reply_line store (NoRoom need have) = answer.NoRoom need have
+
+-- the store after it: a request that is refused changes nothing
+abbrev pub store_after : Store → Transaction → Judgement → Store
+store_after store transaction (Commits places) = apply store transaction (store.last + 1) places
+store_after store transaction (NoSpace key tier) = store
+store_after store transaction (NoRoom need have) = store
+
+-- the blocks that a request takes
+abbrev pub taken_by : Judgement → List Block
+taken_by (Commits places) = flat_map blocks_of places
+taken_by (NoSpace key tier) = []
+taken_by (NoRoom need have) = []
+
+-- the reply to a session's request that was judged so, which leaves the queue and its session free
+abbrev pub replied : World → ℕ → Transaction → List ℕ → Judgement → Led
+replied world session transaction queue judgement = record {
+  text = answer_text session (reply_line world.store judgement);
   world = record {
-    store = apply world.store transaction (world.store.last + 1) (tail_places (length world.poured) (contents_of transaction));
+    store = store_after world.store transaction judgement;
     sessions = with_session world.sessions session Free;
     queue = queue;
-    poured = world.poured ++ filter has_bytes (contents_of transaction);
+    taken = taken_by judgement ++ world.taken;
   };
 }
 
+-- how many bytes a layout has for the states of a half
+abbrev pub states_bytes : Layout → ℕ
+states_bytes layout = page_bytes * layout.room
+
+-- the judgement of a request in a store of this layout
+abbrev pub judge_in : Layout → Store → Transaction → Judgement
+judge_in layout store transaction = judge store transaction (data_pages layout) (states_bytes layout)
+
+-- the lead of a session's request, with the sessions that are still queued behind it
+abbrev pub lead_request : Layout → World → ℕ → Transaction → List ℕ → Led
+lead_request layout world session transaction queue = replied world session transaction queue (judge_in layout world.store transaction)
+
 -- a lead at this queue
-abbrev pub lead_queue : World → List ℕ → Led
-lead_queue world [] = record { text = idle_text; world = world }
-lead_queue world (session ∷ queue) = commit world session (transaction_of (world.sessions session)) queue
+abbrev pub lead_queue : Layout → World → List ℕ → Led
+lead_queue layout world [] = record { text = idle_text; world = world }
+lead_queue layout world (session ∷ queue) = lead_request layout world session (transaction_of (world.sessions session)) queue
 
 -- A lead commits one group. While there is one session, a group is the request at the front of the queue.
-abbrev pub lead : World → Led
-lead world = lead_queue world world.queue
+abbrev pub lead : Layout → World → Led
+lead layout world = lead_queue layout world world.queue

@@ -1,10 +1,10 @@
 -- What the data area holds of a content: where its pages stand, and that they read as it.
 use Rattle.std.specs.Prelude.{ℕ, ◌+◌, ◌-◌, ◌*◌, ◌/◌, ◌%◌, ◌<◌, ◌≤◌, ◌≡◌, ◌⊎◌, min, nat_lt, if◌then◌else◌, List, length, take, drop, slice_get, Some}
-use Rattle.store_model.specs.Disk.{Calls, Image, page_bytes}
+use Rattle.store_model.specs.Disk.{Calls, Image, page_bytes, page_of}
 use Rattle.store_model.specs.Layout.{Layout, data_page}
 use Rattle.store_model.specs.Shape.{LiesAt}
 use Rattle.store_model.specs.State.{State, heads_of}
-use Rattle.store_model.specs.Store.{Place}
+use Rattle.store_model.specs.Store.{Object, Place}
 
 -- where a state's pages stand
 abbrev pub place_of : State → Place
@@ -33,6 +33,12 @@ rest_of content = drop (page_bytes * (length content / page_bytes)) content
 pub record Holds (image : Image) (first : ℕ) (place : Place) (content : List ℕ) : Type 0 where
   pub full : (page at : ℕ) → page < length content / page_bytes → StandsAt place page at → image (first + at) ≡ full_page content page
   pub tail : (page : ℕ) → place.tail ≡ Some page → take (length content % page_bytes) (image (first + page)) ≡ rest_of content
+
+-- An object stands in the data area that begins at page `first`: its content is held at its place, with zeros behind it on
+-- the tail page.
+pub record Stands (image : Image) (first : ℕ) (object : Object) : Type 0 where
+  pub held : Holds image first object.place object.content
+  pub filled : (page : ℕ) → object.place.tail ≡ Some page → image (first + page) ≡ page_of (rest_of object.content)
 
 -- each full page of a content below number n reads as it from where it stands
 abbrev pub HoldsFront : ℕ → Image → ℕ → Place → List ℕ → Type 0

@@ -18,5 +18,7 @@ pub mod Tuple
 pub mod Holds
 pub mod Space
 pub mod Verify
+pub mod Places
+pub mod Judgement
 pub mod Field
 pub mod TupleFields

@@ -1,5 +1,6 @@
 -- The play of a script: what its lines are answered, one after the other, and what they make of the world.
 use Rattle.std.specs.Prelude.{ℕ, List, [], ◌∷◌, ◌++◌}
+use Rattle.store_model.specs.Layout.{Layout}
 use Rattle.store_model.specs.Turn.{Turned, turn}
 use Rattle.store_model.specs.Answer.{answer_text}
 use Rattle.store_model.specs.Group.{World, Led, new_world, with_session, lead}
@@ -17,13 +18,13 @@ with_turn world number action after = record {
   store = world.store;
   sessions = with_session world.sessions number after;
   queue = queue_after world.queue number action (world.sessions number);
-  poured = world.poured;
+  taken = world.taken;
 }
 
--- what a step prints, and the world after it
-abbrev pub step_play : World → Step → Led
-step_play world Lead = lead world
-step_play world (Session number action) =
+-- what a step prints in a store of this layout, and the world after it
+abbrev pub step_play : Layout → World → Step → Led
+step_play layout world Lead = lead layout world
+step_play layout world (Session number action) =
     let turned = turn world.store (world.sessions number) action in
     record { text = answer_text number turned.line; world = with_turn world number action turned.session }
 
@@ -32,9 +33,9 @@ abbrev pub led_then : Led → Led → Led
 led_then first rest = record { text = first.text ++ rest.text; world = rest.world }
 
 -- what steps print one after the other, and the world after them
-abbrev pub play_steps : World → List (ℕ × Step) → Led
-play_steps world [] = record { text = []; world = world }
-play_steps world (step ∷ steps) = led_then (step_play world step.1) (play_steps (step_play world step.1).world steps)
+abbrev pub play_steps : Layout → World → List (ℕ × Step) → Led
+play_steps layout world [] = record { text = []; world = world }
+play_steps layout world (step ∷ steps) = led_then (step_play layout world step.1) (play_steps layout (step_play layout world step.1).world steps)
 
 -- what a script prints before its end, the end, and the world after it
 pub record Played : Type 0 where
@@ -42,8 +43,8 @@ pub record Played : Type 0 where
   pub end : End
   pub world : World
 
--- the play of a script over the store that a format leaves
-abbrev pub play : List ℕ → Played
-play script =
-    let led = play_steps new_world (steps_of script).steps in
+-- the play of a script over the store that a format of this layout leaves
+abbrev pub play : Layout → List ℕ → Played
+play layout script =
+    let led = play_steps layout new_world (steps_of script).steps in
     record { text = led.text; end = (steps_of script).end; world = led.world }

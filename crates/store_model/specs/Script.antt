@@ -1,6 +1,7 @@
 -- Scripts: the lines of a text, and the steps that they ask for.
-use Rattle.std.specs.Prelude.{ℕ, ◌+◌, ◌==◌, nat_le, List, [], ◌∷◌, length, take, drop, Option, Some, None, Result, Ok, Err, option_map, option_and_then, codes, bytes_eq, if◌then◌else◌}
-use Rattle.std.specs.List.{slice_split}
+use Rattle.std.specs.Prelude.{ℕ, ◌+◌, ◌*◌, ◌/◌, ◌%◌, ◌==◌, nat_le, nat_lt, List, [], ◌∷◌, length, map, take, drop, Option, Some, None, Result, Ok, Err, option_map, option_and_then, codes, bytes_eq, decimal, if◌then◌else◌}
+use Rattle.std.specs.List.{range_with_len, slice_split}
+use Rattle.std.specs.Str.Parse.{digits_value}
 use Rattle.hex.specs.Hex.{decode_of}
 use Rattle.hex.specs.declared.error.FromHexError.{FromHexError}
 use Rattle.store_model.specs.Key.{key_of}
@@ -22,14 +23,35 @@ pub data Step : Type 0 where
   Session : ℕ → Action → Step
   Lead : Step
 
--- where decoding succeeded, with at most 4095 bytes
-abbrev pub small_content : Result (List ℕ) FromHexError → Option (List ℕ)
-small_content (Ok bytes) = if nat_le (length bytes) 4095 then Some bytes else None
-small_content (Err _) = None
+-- what hexadecimal digits spell, where they are such
+abbrev pub decoded : Result (List ℕ) FromHexError → Option (List ℕ)
+decoded (Ok bytes) = Some bytes
+decoded (Err _) = None
 
--- the content that a word spells: `x:` and two hexadecimal digits of either case for each byte
+-- the number below `bound` that a word spells in decimal, without leading zeros
+abbrev pub number_below : ℕ → List ℕ → Option ℕ
+number_below bound word =
+    if nat_lt (digits_value 10 word) bound then (if bytes_eq word (decimal (digits_value 10 word)) then Some (digits_value 10 word) else None)
+    else None
+
+-- a made content: so many bytes, of which byte i is (first + 7 i + i / 256) mod 256
+abbrev pub made_bytes : ℕ → ℕ → List ℕ
+made_bytes count first = map (λ i. (first + 7 * i + i / 256) % 256) (range_with_len 0 count)
+
+-- the made content of a count and a first byte
+abbrev pub made_content : List (List ℕ) → Option (List ℕ)
+made_content [] = None
+made_content (count ∷ []) = None
+made_content (count ∷ first ∷ []) = option_and_then (λ n. option_map (made_bytes n) (number_below 256 first)) (number_below 4294967296 count)
+made_content (count ∷ first ∷ more ∷ words) = None
+
+-- The content that a word spells: `x:` and two hexadecimal digits of either case for each byte, or `g:`, a count, `:` and
+-- a first byte.
 abbrev pub spelled_content : List ℕ → Option (List ℕ)
-spelled_content word = if bytes_eq (take 2 word) (codes "x:") then small_content (decode_of (drop 2 word)) else None
+spelled_content word =
+    if bytes_eq (take 2 word) (codes "x:") then decoded (decode_of (drop 2 word))
+    else if bytes_eq (take 2 word) (codes "g:") then made_content (slice_split (λ byte. byte == 58) (drop 2 word))
+    else None
 
 -- the action of the words behind the session
 abbrev pub action_of : List (List ℕ) → Option Action

@@ -1,6 +1,7 @@
 -- Space: which pages of the data area are owned, and which place is the next free one.
 use Rattle.std.specs.Prelude.{ℕ, ◌+◌, ◌%◌, ◌<◌, ◌≤◌, ◌≡◌, ◌&&◌, nat_le, nat_lt, Bool, IsTrue, List, [], ◌∷◌, ◌++◌, Option, Some, None, Contains, if◌then◌else◌}
 use Rattle.std.specs.List.{enumerate_from, flat_map}
+use Rattle.store_model.specs.Layout.{Layout, data_page, data_pages}
 use Rattle.store_model.specs.Shape.{pages_of_tier, tier_of}
 use Rattle.store_model.specs.Store.{Place}
 
@@ -65,6 +66,17 @@ abbrev pub tail_blocks : Option ℕ → List Block
 tail_blocks None = []
 tail_blocks (Some page) = (page, 0) ∷ []
 
+-- the blocks of extents with these heads, in order
+abbrev pub extent_blocks : List ℕ → List Block
+extent_blocks heads = flat_map (λ head. (head.1, tier_of head.0) ∷ []) (enumerate_from 0 heads)
+
 -- the blocks of an object's place: its extents in order, and then its tail
 abbrev pub blocks_of : Place → List Block
-blocks_of place = flat_map (λ head. (head.1, tier_of head.0) ∷ []) (enumerate_from 0 place.heads) ++ tail_blocks place.tail
+blocks_of place = extent_blocks place.heads ++ tail_blocks place.tail
+
+-- page p of a disk is one of the data area that some of these blocks own
+pub record IsOwnedPage (layout : Layout) (blocks : List Block) (p : ℕ) : Type 0 where
+  pub at : ℕ
+  pub is : p ≡ data_page layout + at
+  pub within : at < data_pages layout
+  pub owned : 1 ≤ owners blocks at

@@ -1,5 +1,5 @@
 -- Transactions: what one has read and changed, and what its commit makes of a store.
-use Rattle.std.specs.Prelude.{ℕ, ◌+◌, Bool, not, ◌||◌, List, map, Option, count_by, fold, zip}
+use Rattle.std.specs.Prelude.{ℕ, ◌+◌, Bool, not, ◌||◌, List, Option, count_by, fold, zip}
 use Rattle.std.specs.FinMap.{FinMap, empty, insert, contains_key, entries, keys, len}
 use Rattle.store_model.specs.Key.{key_order}
 use Rattle.store_model.specs.Store.{Store, Object, Place}
@@ -28,10 +28,6 @@ touched_count transaction = len transaction.reads + count_by (λ key. not (conta
 -- the content that a change gives its key
 abbrev pub content_of : Change → List ℕ
 content_of (Put content) = content
-
--- the contents that it sets, in key order
-abbrev pub contents_of : Transaction → List (List ℕ)
-contents_of transaction = map (λ change. content_of change.1) (entries transaction.changes)
 
 -- the objects after one change, with the number of its entry and its place
 abbrev pub with_change : ℕ → FinMap key_order Object → (List ℕ × Change) × Place → FinMap key_order Object

@@ -73,12 +73,12 @@ fn the_pages_of_a_layout(rt: HostRuntime) {
     assert_eq!(rt; (smallest.header(0), smallest.header(1)), (1, 2));
     assert_eq!(rt; (smallest.log(0), smallest.log(1)), (3, 515));
     assert_eq!(rt; (smallest.states(0), smallest.states(1)), (1027, 1028));
-    assert_eq!(rt; smallest.data(), 1029);
+    assert_eq!(rt; (smallest.data(), smallest.data_pages()), (1029, 1024));
     let largest = Layout {
         units: 16_384,
         room: 1024,
     };
     assert_eq!(rt; largest.total(), 16_780_291);
     assert_eq!(rt; (largest.states(0), largest.states(1)), (1027, 2051));
-    assert_eq!(rt; largest.data(), 3075);
+    assert_eq!(rt; (largest.data(), largest.data_pages()), (3075, 16_777_216));
 }

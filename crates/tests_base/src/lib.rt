@@ -2,6 +2,10 @@
 #![tactic(auto)]
 
 #[cfg(test)]
+mod contents;
+#[cfg(test)]
+mod crashes;
+#[cfg(test)]
 mod disks;
 #[cfg(test)]
 mod ends;

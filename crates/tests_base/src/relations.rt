@@ -25,7 +25,6 @@ fn set<R: Abort>(rt: &R, relation: &mut Relation, key: &str, content: &[u8], pag
 {
     let key = Key::read(key.as_bytes()).expect(rt, "a key");
     let state = state_of(rt, content, page);
-    assert!(rt; state.encoded(&key) < 1_000);
     assert!(rt; relation.bytes() < 1_000);
     relation.set(key, state);
 }

@@ -3,7 +3,7 @@
 ghost use Rattle.std.specs.Prelude.{◌≤◌};
 
 use arrayvec::ArrayVec;
-use blob_base::{Bytes, Key};
+use blob_base::{Bytes, Key, Owned};
 use blob_state::{BlobState, Draft, encode, encode_into};
 use std::alloc::{AllocError, Global};
 use std::process::Abort;
@@ -149,4 +149,21 @@ fn what_a_state_answers(rt: HostRuntime) {
     assert!(rt; &state.prefix()[..4] == b"abc\0".as_slice());
     assert_eq!(rt; state.print().size, 3);
     assert!(rt; state.print().digest == *state.digest());
+}
+
+// An extent of one page and a tail stand behind what is owned already.
+#[test]
+fn what_a_state_owns(rt: HostRuntime) -> Result<(), Fail> {
+    let draft = Draft::put(&[7; 4097]).expect(&rt, "a draft");
+    let size = draft.size();
+    assert!(rt; draft.marks().len() == 1);
+    assert!(rt; 0 < size % 4096);
+    let mut heads = ArrayVec::new();
+    heads.push(9);
+    let state = draft.place(&heads, Some(6), 1);
+    let mut owned = Owned::new(rt.alloc());
+    owned.push(rt.alloc(), (64, 6))?;
+    state.add_owned(rt.alloc(), &mut owned)?;
+    assert!(rt; owned.as_slice() == [(64, 6), (9, 0), (6, 0)].as_slice());
+    Ok(())
 }

@@ -1,11 +1,13 @@
 // Faults of the source, the sink and the disk, and want of memory.
 
-use crate::trial::{FIRST, FIRST_OUTPUT, Trial};
+use crate::trial::{FIRST, FIRST_OUTPUT, Trial, append_made};
+use blob_base::Bytes;
 use blob_steps::Status;
+use std::test::Fail;
 
-// Two puts, and a get: the disk takes two writes, a sync and a read.
+// Two puts, one of them of two extents and a tail, and a get of it. The disk takes four writes, a sync and six reads.
 const TWO_PUTS: &[u8] =
-    b"0 begin\n0 put a/b x:01\n0 put a/a x:02\n0 commit\nlead\n0 begin\n0 get a/b\n";
+    b"0 begin\n0 put a/b x:01\n0 put a/a g:8193:9\n0 commit\nlead\n0 begin\n0 get a/a\n";
 
 #[test]
 fn reads_that_fail(rt: HostRuntime) {
@@ -20,7 +22,7 @@ fn reads_that_fail(rt: HostRuntime) {
             failing_reads: &[failing],
             ..Trial::of(b"0 begin\n0 put a/b x:01\n0 commit\n")
         };
-        trial.expect(&rt, output, Status::ReadFault);
+        trial.expect(&rt, output, &Status::ReadFault);
     }
 }
 
@@ -35,7 +37,7 @@ fn writes_that_fail(rt: HostRuntime) {
             failing_writes: &[failing],
             ..Trial::of(FIRST)
         };
-        trial.expect(&rt, output, Status::WriteFault);
+        trial.expect(&rt, output, &Status::WriteFault);
     }
 }
 
@@ -49,29 +51,33 @@ fn a_sink_that_takes_nothing(rt: HostRuntime) {
         failing_writes: &failing,
         ..Trial::of(FIRST)
     };
-    trial.expect(&rt, b"", Status::WriteFault);
+    trial.expect(&rt, b"", &Status::WriteFault);
 }
 
 #[test]
-fn disk_calls_that_fail(rt: HostRuntime) {
+fn disk_calls_that_fail(rt: HostRuntime) -> Result<(), Fail> {
     let front = b"0 begun\n0 put\n0 put\n0 queued\ndisk fault\n".as_slice();
     let all = b"0 begun\n0 put\n0 put\n0 queued\n0 committed 1\n0 begun\ndisk fault\n".as_slice();
-    for (failing, output) in [(1, front), (2, front), (3, front), (4, all)] {
+    for call in 1..12 {
         let trial = Trial {
-            failing_disk_calls: &[failing],
+            failing_disk_calls: &[call],
             ..Trial::of(TWO_PUTS)
         };
-        trial.expect(&rt, output, Status::DiskFault);
+        let output = if call <= 5 { front } else { all };
+        trial.expect(&rt, output, &Status::DiskFault);
     }
     let trial = Trial {
-        failing_disk_calls: &[5],
+        failing_disk_calls: &[12],
         ..Trial::of(TWO_PUTS)
     };
-    trial.expect(
-        &rt,
-        b"0 begun\n0 put\n0 put\n0 queued\n0 committed 1\n0 begun\n0 value 1 01\n",
-        Status::Done,
-    );
+    let mut output = Bytes::of(
+        rt.alloc(),
+        b"0 begun\n0 put\n0 put\n0 queued\n0 committed 1\n0 begun\n0 value 8193 ",
+    )?;
+    append_made(rt.alloc(), &mut output, 9, 2, 1)?;
+    output.append(rt.alloc(), b"\n")?;
+    trial.expect(&rt, output.as_slice(), &Status::Done);
+    Ok(())
 }
 
 // Where an allocation of the run fails, the answers so far stay, and no other stands in their place.

@@ -1,19 +1,9 @@
 // Scripts and their answers.
 
 use crate::trial::{FIRST, FIRST_OUTPUT, Trial, expect};
-use blob_base::{Bytes, OutOfMemory};
+use blob_base::Bytes;
 use blob_steps::Status;
-use std::alloc::Global;
 use std::test::Fail;
-
-// The bytes of a put of that many bytes 255, in a transaction of its own.
-fn put_script(alloc: Global, count: usize) -> Result<Bytes, OutOfMemory> {
-    let mut script = Bytes::of(alloc, b"0 begin\n0 put demo/a x:")?;
-    for _ in 0..count {
-        script.append(alloc, b"ff")?;
-    }
-    Ok(script)
-}
 
 #[test]
 fn the_first_script_in_pieces(rt: HostRuntime) {
@@ -22,7 +12,7 @@ fn the_first_script_in_pieces(rt: HostRuntime) {
             piece,
             ..Trial::of(FIRST)
         };
-        trial.expect(&rt, FIRST_OUTPUT, Status::Done);
+        trial.expect(&rt, FIRST_OUTPUT, &Status::Done);
     }
 }
 
@@ -65,7 +55,7 @@ fn answers_of_well_formed_scripts(rt: HostRuntime) {
             "0 begun\n0 put\n0 queued\n0 committed 1\n0 begun\n0 put\n0 queued\n0 committed 2\n0 begun\n0 value 2 0203\n0 absent\n",
         ),
     ] {
-        expect(&rt, script, output, Status::Done);
+        expect(&rt, script, output, &Status::Done);
     }
 }
 
@@ -76,7 +66,7 @@ fn an_empty_content(rt: HostRuntime) {
         &rt,
         "0 begin\n0 put demo/a x:\n0 stat demo/a\n0 get demo/a\n0 commit\nlead\n0 begin\n0 get demo/a\n0 stat demo/a\n",
         "0 begun\n0 put\n0 stat 0 e3b0c44298fc1c149afbf4c8996fb92427ae41e4649b934ca495991b7852b855\n0 value 0 -\n0 queued\n0 committed 1\n0 begun\n0 value 0 -\n0 stat 0 e3b0c44298fc1c149afbf4c8996fb92427ae41e4649b934ca495991b7852b855\n",
-        Status::Done,
+        &Status::Done,
     );
 }
 
@@ -123,7 +113,7 @@ fn lines_that_are_not_built(rt: HostRuntime) {
         script[..len].copy_from_slice(line.as_bytes());
         script[len] = b'\n';
         let trial = Trial::of(&script[..len + 1]);
-        trial.expect(&rt, b"not built line 1\n", Status::NotBuilt { line: 1 });
+        trial.expect(&rt, b"not built line 1\n", &Status::NotBuilt { line: 1 });
     }
 }
 
@@ -135,9 +125,9 @@ fn a_line_that_is_not_built_ends_the_script(rt: HostRuntime) {
         ("0 begin\n\n", "0 begun\nnot built line 2\n"),
         ("0 begin\n# note", "0 begun\nnot built line 2\n"),
     ] {
-        expect(&rt, script, output, status);
+        expect(&rt, script, output, &status);
     }
-    Trial::of(b"lead\n\xff\n").expect(&rt, b"idle\nnot built line 2\n", status);
+    Trial::of(b"lead\n\xff\n").expect(&rt, b"idle\nnot built line 2\n", &status);
 }
 
 #[test]
@@ -148,27 +138,55 @@ fn a_script_has_at_most_16_lines(rt: HostRuntime) -> Result<(), Fail> {
         script.append(rt.alloc(), b"lead\n")?;
         output.append(rt.alloc(), b"idle\n")?;
     }
-    Trial::of(script.as_slice()).expect(&rt, output.as_slice(), Status::Done);
+    Trial::of(script.as_slice()).expect(&rt, output.as_slice(), &Status::Done);
     output.append(rt.alloc(), b"not built line 17\n")?;
     script.append(rt.alloc(), b"\n")?;
     let status = Status::NotBuilt { line: 17 };
-    Trial::of(script.as_slice()).expect(&rt, output.as_slice(), status);
+    Trial::of(script.as_slice()).expect(&rt, output.as_slice(), &status);
     script.append(rt.alloc(), b"lead\n")?;
-    Trial::of(script.as_slice()).expect(&rt, output.as_slice(), status);
+    Trial::of(script.as_slice()).expect(&rt, output.as_slice(), &status);
     Ok(())
 }
 
 #[test]
-fn a_content_has_at_most_4095_bytes(rt: HostRuntime) -> Result<(), Fail> {
-    let mut script = put_script(rt.alloc(), 4095)?;
+fn a_content_of_4096_bytes_in_hexadecimal(rt: HostRuntime) -> Result<(), Fail> {
+    let mut script = Bytes::of(rt.alloc(), b"0 begin\n0 put demo/a x:")?;
+    for _ in 0..4096 {
+        script.append(rt.alloc(), b"ff")?;
+    }
     script.append(rt.alloc(), b"\n0 stat demo/a")?;
     let output =
-        b"0 begun\n0 put\n0 stat 4095 a0631471e083ff5b0d37b9971a126cf4285a3e2a4b4f417c360a168bfea8b70e\n";
-    Trial::of(script.as_slice()).expect(&rt, output, Status::Done);
-    let script = put_script(rt.alloc(), 4096)?;
-    let status = Status::NotBuilt { line: 2 };
-    Trial::of(script.as_slice()).expect(&rt, b"0 begun\nnot built line 2\n", status);
+        b"0 begun\n0 put\n0 stat 4096 f47a8ec3e9aff2318d896942282ad4fe37d6391c82914f54a5da8a37de1300c6\n";
+    Trial::of(script.as_slice()).expect(&rt, output, &Status::Done);
     Ok(())
+}
+
+// The greatest size is 381,669,375: that of 93,180 pages and 4,095 bytes.
+#[test]
+fn a_content_that_is_too_long(rt: HostRuntime) {
+    expect(
+        &rt,
+        "0 begin\n0 put demo/a g:381669376:0\n0 put demo/b g:4294967295:0\n0 get demo/a\n0 commit\nlead\n",
+        "0 begun\n0 too-long 381669376\n0 too-long 4294967295\n0 absent\n0 queued\n0 committed 1\n",
+        &Status::Done,
+    );
+}
+
+// A state of 32 extents and a key of 6 characters takes 77 + 6 + 36 * 32 = 1235 bytes, and four of them 4940.
+#[test]
+fn no_room_for_a_fourth_state(rt: HostRuntime) {
+    let trial = Trial {
+        words: "fresh s 8 1",
+        pages: 9221,
+        ..Trial::of(
+            b"0 begin\n0 put demo/a g:4177920:0\n0 commit\nlead\n0 begin\n0 put demo/b g:4177920:0\n0 commit\nlead\n0 begin\n0 put demo/c g:4177920:0\n0 commit\nlead\n0 begin\n0 put demo/d g:4177920:0\n0 commit\nlead\n",
+        )
+    };
+    trial.expect(
+        &rt,
+        b"0 begun\n0 put\n0 queued\n0 committed 1\n0 begun\n0 put\n0 queued\n0 committed 2\n0 begun\n0 put\n0 queued\n0 committed 3\n0 begun\n0 put\n0 queued\n0 no-room 4940 4096\n",
+        &Status::Done,
+    );
 }
 
 #[test]
@@ -178,8 +196,8 @@ fn a_line_of_70_000_bytes(rt: HostRuntime) -> Result<(), Fail> {
         script.append(rt.alloc(), b"0123456789")?;
     }
     let status = Status::NotBuilt { line: 1 };
-    Trial::of(script.as_slice()).expect(&rt, b"not built line 1\n", status);
+    Trial::of(script.as_slice()).expect(&rt, b"not built line 1\n", &status);
     script.append(rt.alloc(), b"\nlead\n")?;
-    Trial::of(script.as_slice()).expect(&rt, b"not built line 1\n", status);
+    Trial::of(script.as_slice()).expect(&rt, b"not built line 1\n", &status);
     Ok(())
 }

@@ -1,8 +1,10 @@
 // A run to be tried, and how it ended.
 
+ghost use Rattle.std.specs.Prelude.{◌<◌, ◌≤◌};
+
 use blob_base::{Bytes, Bytes64, OutOfMemory, Word};
 use blob_steps::{Status, run_alone};
-use disk_model::MemDisk;
+use disk_model::{Disk, MemDisk, PAGE_BYTES, Page};
 use io_ends::{MemSink, MemSource};
 use std::alloc::Global;
 use std::process::Abort;
@@ -40,43 +42,53 @@ impl<'a> Trial<'a> {
         }
     }
 
-    /// Does the run.
-    pub(crate) fn run(&self, alloc: Global) -> Result<Ended, OutOfMemory> {
+    /// Does the run over a disk in memory.
+    pub(crate) fn run(&self, alloc: Global) -> Result<Ended<MemDisk>, OutOfMemory> {
+        let calls = numbers(alloc, self.failing_disk_calls)?;
+        let disk = MemDisk::new(alloc, self.pages, calls)?;
+        self.run_on(alloc, disk)
+    }
+
+    /// Does the run over this disk.
+    pub(crate) fn run_on<D: Disk + Drop>(
+        &self,
+        alloc: Global,
+        disk: D,
+    ) -> Result<Ended<D>, OutOfMemory> {
         let words = words_of(alloc, self.words)?;
         let script = Bytes::of(alloc, self.script)?;
         let reads = numbers(alloc, self.failing_reads)?;
         let mut source = MemSource::new(script, self.piece.max(1), reads);
         let mut sink = MemSink::new(alloc, numbers(alloc, self.failing_writes)?);
-        let calls = numbers(alloc, self.failing_disk_calls)?;
-        let disk = MemDisk::new(alloc, self.pages, calls)?;
         let (status, disk) = run_alone(alloc, words.as_slice(), &mut source, &mut sink, disk);
         Ok(Ended { status, sink, disk })
     }
 
     /// Does the run, and compares how it ended.
-    pub(crate) fn expect<R: Abort + AllocGlobal>(&self, rt: &R, output: &[u8], status: Status) {
+    pub(crate) fn expect<R: Abort + AllocGlobal>(&self, rt: &R, output: &[u8], status: &Status) {
         let ended = self.run(rt.alloc()).expect(rt, "memory");
-        assert!(rt;
-            ended.status == status,
-            "{:?} {:?}",
-            self.script,
-            ended.status
-        );
-        assert!(rt;
-            ended.sink.taken() == output,
-            "{:?} {:?}",
-            self.script,
-            ended.sink.taken()
-        );
+        ended.expect(rt, output, status);
     }
 }
 
 /// How a run ended: its status, the sink of its output, and its disk.
 #[derive(Drop)]
-pub(crate) struct Ended {
+pub(crate) struct Ended<D> {
     pub(crate) status: Status,
     pub(crate) sink: MemSink,
-    pub(crate) disk: MemDisk,
+    pub(crate) disk: D,
+}
+
+impl<D> Ended<D> {
+    /// Compares the status and the output.
+    pub(crate) fn expect<R: Abort>(&self, rt: &R, output: &[u8], status: &Status) {
+        assert!(rt;
+            self.sink.taken() == output,
+            "{:?}",
+            self.sink.taken().get(..200).unwrap_or(self.sink.taken())
+        );
+        assert!(rt; self.status == *status, "{:?}", self.status);
+    }
 }
 
 // The words of a command line; an empty one has none.
@@ -96,6 +108,39 @@ fn numbers(alloc: Global, calls: &[u64]) -> Result<Bytes64, OutOfMemory> {
 }
 
 /// Runs a script in the smallest store, where nothing fails, and compares how it ended.
-pub(crate) fn expect<R: Abort + AllocGlobal>(rt: &R, script: &str, output: &str, status: Status) {
+pub(crate) fn expect<R: Abort + AllocGlobal>(rt: &R, script: &str, output: &str, status: &Status) {
     Trial::of(script.as_bytes()).expect(rt, output.as_bytes(), status);
+}
+
+/// The bytes from the first of the page of this number on, in the made content of a first byte.
+pub(crate) fn made_page(first: u8, number: usize) -> Page
+    requires { number < 1024 }
+{
+    let mut page = [0; PAGE_BYTES];
+    for j in 0..PAGE_BYTES {
+        let i = PAGE_BYTES * number + j;
+        page[j] = ((usize::from(first) + 7 * i + i / 256) % 256) as u8;
+    }
+    page
+}
+
+/// Adds so many full pages of the made content of a first byte and then the rest of it, in hexadecimal.
+pub(crate) fn append_made(
+    alloc: Global,
+    out: &mut Bytes,
+    first: u8,
+    pages: usize,
+    rest: usize,
+) -> Result<(), OutOfMemory>
+    requires pages { pages < 1024 }
+    requires rest { rest ≤ 4096 }
+{
+    for number in 0..pages {
+        out.append(
+            alloc,
+            hex::encode(alloc, &made_page(first, number))?.as_bytes(),
+        )?;
+    }
+    let page = made_page(first, pages);
+    out.append(alloc, hex::encode(alloc, &page[..rest])?.as_bytes())
 }

@@ -17,7 +17,7 @@ returns-in-Some-clause-refused g c = λ layout is small.
 pub returns-in-Some-clause-ended : goal.returns-in-Some-clause-ended
 returns-in-Some-clause-ended g c = λ tells layout is script known.
     let same = c.layout.ensures ∙ same_layout c.args.words.now (layout_of c.in-Some.form) layout c.in-Some.ensures.form is in
-    subst (λ (l : Layout). Ended c.fresh.result (g.K.Sink.frugal c.args.sink.now) (g.D.Disk.story c.args.disk.now).reads (g.D.Disk.story c.fresh.new.disk).reads l (g.K.Sink.taken c.args.sink.now) (g.K.Sink.taken c.fresh.new.sink) (play script))
+    subst (λ (l : Layout). Ended c.fresh.result (g.K.Sink.frugal c.args.sink.now) (g.D.Disk.story c.args.disk.now).reads (g.D.Disk.story c.fresh.new.disk).reads l (g.K.Sink.taken c.args.sink.now) (g.K.Sink.taken c.fresh.new.sink) (play l script))
     same (c.fresh.ensures.ended tells script known)
 
 pub returns-in-None-clause-refused : goal.returns-in-None-clause-refused

@@ -1,5 +1,4 @@
 use Rattle.std.proofs.Common.{◌≡◌, ◌-◌, ◌<◌, ◌≤◌, ℕ, length, get_or}
-use Rattle.std.specs.Prelude.{Contains}
 use Rattle.extent_alloc.proofs.blocks.index_of.Given as goal
 
 -- The block stands at some index from here on.

@@ -1,4 +1,4 @@
-use Rattle.std.proofs.Common.{◌≡◌, ℕ, ◌+◌, ◌%◌, ◌≤◌, length, take, get_or, ap, sym, ◌∙◌, arith, subst}
+use Rattle.std.proofs.Common.{◌≡◌, ℕ, ◌%◌, length, take, get_or, ap, sym, ◌∙◌, arith, subst}
 use Rattle.store_model.specs.Shape.{pages_of_tier}
 use Rattle.store_model.specs.Space.{Block}
 use Rattle.extent_alloc.specs.Order.{AllBelow}

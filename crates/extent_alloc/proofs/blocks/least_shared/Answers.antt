@@ -1,6 +1,6 @@
-use Rattle.std.proofs.Common.{◌≡◌, ℕ, ◌+◌, ◌≤◌, length, get_or, ap, sym, ◌∙◌, arith, subst}
+use Rattle.std.proofs.Common.{◌≡◌, ℕ, ◌+◌, get_or, ap, sym, arith, subst}
 use Rattle.store_model.specs.Shape.{pages_of_tier}
-use Rattle.store_model.specs.Space.{Block, end_of}
+use Rattle.store_model.specs.Space.{Block}
 use Rattle.extent_alloc.proofs.Scans.{Ordered, Ordered-next, contains-at, shared-least}
 use Rattle.extent_alloc.proofs.blocks.least_shared.Goals as goal
 

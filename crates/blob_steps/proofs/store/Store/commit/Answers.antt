@@ -1,36 +1,97 @@
-use Rattle.std.proofs.Common.{◌+◌, [], ◌∷◌, arith, ◌∙◌, ap, subst}
-use Rattle.std.specs.FinMap as map
-use Rattle.store_model.specs.Disk.{with_pages}
-use Rattle.store_model.specs.Group.{tail_place}
-use Rattle.store_model.specs.Key.{key_order}
-use Rattle.store_model.specs.Layout.{Layout, data_page}
-use Rattle.store_model.specs.Store.{Object}
-use Rattle.store_model.specs.Transaction.{content_of}
-use Rattle.blob_steps.specs.Worlds.{SameObjects, pages_of}
-use Rattle.blob_steps.proofs.Commits.{Committing-next}
+use Rattle.std.proofs.Common.{◌≡◌, ◌+◌, ◌∙◌, List, Some, None, refl, subst}
+use Rattle.std.specs.List.{sum_by}
+use Rattle.store_model.specs.Answer.{NoSpace}
+use Rattle.store_model.specs.Group.{states_bytes}
+use Rattle.store_model.specs.Disk.{SameOff}
+use Rattle.store_model.specs.Layout.{data_page}
+use Rattle.store_model.specs.Space.{IsOwnedPage}
+use Rattle.relation.specs.Parts.{encoded_by, owned_by}
+use Rattle.blob_steps.specs.Answers.{model_line}
+use Rattle.blob_steps.specs.Places.{blocks_by, places_of}
+use Rattle.blob_steps.specs.Stores.{SameObjects, objects_with, replaced_bytes, room_line, write_bytes}
+use Rattle.blob_steps.specs.declared.write.Write.{Write}
+use Rattle.blob_steps.proofs.Judging.{Replied-NoRoom, Replied-NoSpace, Replied-commits, given-back, listed-owned, taken-owned}
 use Rattle.blob_steps.proofs.store.Store.commit.Goals as goal
 
-pub loop-key-preserved : goal.loop-key-preserved
-loop-key-preserved g c =
-    let disk = g.D.Disk in
-    let so_far = c.loop-key.invariant in
-    let kept = so_far.1 in
-    let set = c.in_ok-set.ensures in
-    let content = content_of c.in-Some.change in (
-      Committing-next disk.tells (data_page c.args.self.now.layout) (c.args.self.now.last + 1) _ _ (disk.story c.set.new.disk).reads _ _ c.set.new.self.objects _ _ (map.entries c.pop_first.new.self)
-          (c.in-Some.key, c.in-Some.change) _ _ c.set.new.self.poured so_far.0
-          c.in-Some.ensures.first set.poured
-          (λ tells. set.pages tells ∙ ap (λ layout. with_pages (disk.story c.loop-key.disk).reads (data_page layout + c.loop-key.self.poured) (pages_of (content ∷ []))) kept.layout)
-          (λ tells. subst (λ (layout : Layout). (model : map.FinMap key_order Object) → SameObjects (disk.story c.loop-key.disk).reads (data_page layout) c.loop-key.self.objects model
-          → SameObjects (disk.story c.set.new.disk).reads (data_page layout) c.set.new.self.objects
-          (map.insert model c.in-Some.key (record { content = content; number = c.args.self.now.last + 1; place = tail_place c.loop-key.self.poured content })))
-          kept.layout (set.objects tells)),
-      record {
-        layout = set.layout ∙ kept.layout;
-        last = set.last ∙ kept.last;
-        size = set.size ∙ kept.size;
-        faults = omega (arith, set.faults, kept.faults);
-        frugal = set.frugal ∙ kept.frugal;
-        most = omega (arith, set.most, kept.most, c.in-Some.ensures.len);
-      },
+pub give_back_all-requires-clause-owned : goal.give_back_all-requires-clause-owned
+give_back_all-requires-clause-owned g c =
+    let fault = rw c.in-Err-NoSpace.field-0-is at c.in-Err-NoSpace.ensures.fault in (
+      c.args.self.now.space.owned,
+      listed-owned fault.1.0 c.take_places.new.taken c.args.self.now.space c.take_places.new.space fault.1.1,
     )
+
+pub returns-in-Err-NoSpace-clause-sound : goal.returns-in-Err-NoSpace-clause-sound
+returns-in-Err-NoSpace-clause-sound g c =
+    let fault = rw c.in-Err-NoSpace.field-0-is at c.in-Err-NoSpace.ensures.fault in record {
+      owned = given-back fault.1.0 c.take_places.new.taken c.give_back_all.new.space.owned
+          (owned_by c.args.self.now.relation.states)
+          c.args.self.now.space c.take_places.new.space fault.1.1 (λ rest moves. c.give_back_all.ensures.owned rest moves)
+          c.requires.sound.owned;
+      pages = c.give_back_all.ensures.pages ∙ fault.1.1.pages ∙ c.requires.sound.pages;
+      bytes = c.requires.sound.bytes;
+    }
+
+pub returns-in-Err-NoSpace-clause-replied : goal.returns-in-Err-NoSpace-clause-replied
+returns-in-Err-NoSpace-clause-replied g c = λ tells store transaction changes_is stands.
+    let fault = rw c.in-Err-NoSpace.field-0-is at c.in-Err-NoSpace.ensures.fault in
+    Replied-NoSpace (g.D.Disk.story c.args.disk.now).reads c.args.self.now _ store transaction c.args.changes
+    c.in-Err-NoSpace.key
+    c.in-Err-NoSpace.tier _ changes_is stands c.requires.sound.pages c.requires.sound.owned fault.0
+    (λ i. NoSpace (c.in-Err-NoSpace.key-is i) (c.in-Err-NoSpace.tier-is i)) refl refl refl
+
+pub give_back_all-requires-in-Some-clause-owned : goal.give_back_all-requires-in-Some-clause-owned
+give_back_all-requires-in-Some-clause-owned g c = (
+  c.args.self.now.space.owned,
+  listed-owned (blocks_by (places_of c.in-Ok.writes.items)) c.take_places.new.taken c.args.self.now.space
+      c.take_places.new.space
+      c.in-Ok.ensures.takes,
+)
+
+pub returns-in-Some-clause-sound : goal.returns-in-Some-clause-sound
+returns-in-Some-clause-sound g c = record {
+  owned = given-back (blocks_by (places_of c.in-Ok.writes.items)) c.take_places.new.taken
+      c.give_back_all-in-Some.new.space.owned
+      (owned_by c.args.self.now.relation.states) c.args.self.now.space c.take_places.new.space c.in-Ok.ensures.takes
+      (λ rest moves. c.give_back_all-in-Some.ensures.owned rest moves) c.requires.sound.owned;
+  pages = c.give_back_all-in-Some.ensures.pages ∙ c.in-Ok.ensures.takes.pages ∙ c.requires.sound.pages;
+  bytes = c.requires.sound.bytes;
+}
+
+pub returns-in-Some-clause-replied : goal.returns-in-Some-clause-replied
+returns-in-Some-clause-replied g c = λ tells store transaction changes_is stands.
+    let states = c.args.self.now.relation.states in
+    Replied-NoRoom (g.D.Disk.story c.args.disk.now).reads c.args.self.now _ store transaction c.args.changes
+    c.in-Ok.writes.items
+    (model_line c.in-Some.line) changes_is stands c.requires.sound.pages c.requires.sound.owned c.in-Ok.ensures.found
+    c.in-Ok.ensures.changes
+    (subst (λ (ws : List Write). Some (model_line c.in-Some.line)
+    ≡ room_line (encoded_by states) (sum_by write_bytes ws) (sum_by (replaced_bytes states) ws)
+    (states_bytes c.args.self.now.layout))
+    c.as_slice.ensures.value c.in-Some.ensures)
+    refl refl refl
+
+pub write_all-requires-clause-owned : goal.write_all-requires-clause-owned
+write_all-requires-clause-owned g c =
+    taken-owned c.in-Ok.writes.items c.as_slice-in-None.result.now c.take_places.new.taken
+    (owned_by c.args.self.now.relation.states)
+    c.args.self.now.space c.take_places.new.space c.in-Ok.ensures.takes c.requires.sound.owned
+    c.as_slice-in-None.ensures.value
+
+pub returns-clause-replied : goal.returns-clause-replied
+returns-clause-replied g c = λ tells store transaction changes_is stands.
+    let states = c.args.self.now.relation.states in
+    let done = c.in_ok-number-in-None.ensures in
+    Replied-commits (g.D.Disk.story c.args.disk.now).reads (g.D.Disk.story c.write_all.new.disk).reads c.args.self.now
+    c.write_all.new.self store transaction c.args.changes c.in-Ok.writes.items c.in_ok-number-in-None.number changes_is stands
+    c.requires.sound.pages c.requires.sound.owned c.in-Ok.ensures.found c.in-Ok.ensures.changes
+    (subst (λ (ws : List Write). None
+    ≡ room_line (encoded_by states) (sum_by write_bytes ws) (sum_by (replaced_bytes states) ws)
+    (states_bytes c.args.self.now.layout))
+    c.as_slice.ensures.value c.in-None.ensures)
+    (subst (λ (ws : List Write). SameObjects (g.D.Disk.story c.write_all.new.disk).reads (data_page c.args.self.now.layout)
+    c.write_all.new.self.relation.states (objects_with (c.args.self.now.last + 1) store.objects ws))
+    c.as_slice-in-None.ensures.value (done.objects tells store.objects stands.objects))
+    (subst (λ (ws : List Write). SameOff (IsOwnedPage c.args.self.now.layout (blocks_by (places_of ws)))
+    (g.D.Disk.story c.args.disk.now).reads (g.D.Disk.story c.write_all.new.disk).reads)
+    c.as_slice-in-None.ensures.value (done.others tells))
+    done.layout done.last done.number

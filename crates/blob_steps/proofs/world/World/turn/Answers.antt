@@ -1,7 +1,10 @@
-use Rattle.std.proofs.Common.{arith}
+use Rattle.std.proofs.Common.{arith, refl}
 use Rattle.store_model.specs.Store.{empty_store}
 use Rattle.store_model.specs.Turn.{Begin, Put, Commit}
-use Rattle.blob_steps.proofs.Turns.{change_count-turned}
+use Rattle.blob_script.specs.Contents.{content_bytes}
+use Rattle.blob_steps.specs.Answers.{model_line}
+use Rattle.blob_steps.specs.Sessions.{model_session}
+use Rattle.blob_steps.proofs.Turns.{Stands-turn, change_count-turned}
 use Rattle.blob_steps.proofs.world.World.turn.Goals as goal
 
 pub returns-in-Begin-clause-weight : goal.returns-in-Begin-clause-weight
@@ -11,4 +14,9 @@ pub returns-in-Commit-clause-weight : goal.returns-in-Commit-clause-weight
 returns-in-Commit-clause-weight g c = omega (arith, change_count-turned empty_store _ _ Commit _ (c.commit.ensures empty_store))
 
 pub returns-in_ok-put-in-Put-clause-weight : goal.returns-in_ok-put-in-Put-clause-weight
-returns-in_ok-put-in-Put-clause-weight g c = omega (arith, change_count-turned empty_store _ _ (Put c.in-Put.key c.in-Put.content) _ (c.in_ok-put-in-Put.ensures empty_store))
+returns-in_ok-put-in-Put-clause-weight g c = omega (arith, change_count-turned empty_store _ _ (Put c.in-Put.key (content_bytes c.in-Put.content)) _ (c.in_ok-put-in-Put.ensures empty_store))
+
+pub returns-in_ok-put-in-Put-clause-turn : goal.returns-in_ok-put-in-Put-clause-turn
+returns-in_ok-put-in-Put-clause-turn g c = rw c.in-Put.is (λ tells base world is.
+    Stands-turn base (g.D.Disk.story c.args.disk.now).reads c.args.self.now _ (model_session c.put.new.self) world (Put c.in-Put.key (content_bytes c.in-Put.content)) (model_line c.in_ok-put-in-Put.field-0)
+    is refl refl (c.in_ok-put-in-Put.ensures world.store))

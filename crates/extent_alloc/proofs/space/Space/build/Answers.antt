@@ -1,4 +1,4 @@
-use Rattle.std.proofs.Common.{◌≡◌, ◌∙◌, sym, subst, List, arith}
+use Rattle.std.proofs.Common.{◌∙◌, sym, subst, List, arith}
 use Rattle.std.specs.List.Sorted.{IsPermutation}
 use Rattle.std.proofs.lemmas.List.Sorted.{IsPermutation-sym}
 use Rattle.store_model.specs.Space.{AreBlocks, Block, IsLeastOwnedTwice}

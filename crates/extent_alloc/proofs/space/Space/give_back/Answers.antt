@@ -1,8 +1,7 @@
-use Rattle.std.proofs.Common.{◌≡◌, ◌≤◌, ◌∷◌, ℕ, List, sym, ◌∙◌, ap, subst, arith}
+use Rattle.std.proofs.Common.{◌∷◌, subst, arith}
 use Rattle.std.specs.List.Sorted.{IsPermutation}
-use Rattle.store_model.specs.Space.{Block}
 use Rattle.extent_alloc.specs.Parts.{Parts}
-use Rattle.extent_alloc.proofs.Spaces.{GivenBack, GivenBack-remove}
+use Rattle.extent_alloc.proofs.Spaces.{GivenBack-remove}
 use Rattle.extent_alloc.proofs.space.Space.give_back.Goals as goal
 
 pub invariant_of-self : goal.invariant_of-self

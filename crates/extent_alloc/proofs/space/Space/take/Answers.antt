@@ -1,11 +1,9 @@
-use Rattle.std.proofs.Common.{◌≡◌, ◌+◌, ◌≤◌, ◌∷◌, ℕ, Bool, true, cond, List, sym, ◌∙◌, ap, subst, arith, length}
+use Rattle.std.proofs.Common.{◌+◌, ◌≤◌, ◌∷◌, Bool, cond, sym, ◌∙◌, ap, subst, arith}
 use Rattle.std.specs.Vec.{vec_len}
 use Rattle.std.specs.List.Sorted.{IsPermutation}
-use Rattle.std.proofs.lemmas.List.Sorted.{IsPermutation-insert, IsPermutation-sym}
-use Rattle.store_model.specs.Space.{AreBlocks, Block, IsLeastFree}
-use Rattle.extent_alloc.specs.Order.{InOrder}
+use Rattle.store_model.specs.Space.{AreBlocks}
 use Rattle.extent_alloc.specs.Parts.{Parts}
-use Rattle.extent_alloc.proofs.Spaces.{Taken, Taken-insert}
+use Rattle.extent_alloc.proofs.Spaces.{Taken-insert}
 use Rattle.extent_alloc.proofs.space.Space.take.Goals as goal
 
 pub least_gap-requires-clause-blocks : goal.least_gap-requires-clause-blocks

@@ -4,9 +4,9 @@ use Rattle.std.specs.Vec.{vec_capacity, vec_len}
 use Rattle.std.specs.FinMap as map
 use Rattle.store_model.specs.State.{State}
 use Rattle.relation.specs.Entries.{entries_of}
-use Rattle.relation.specs.Parts.{Parts}
+use Rattle.relation.specs.Parts.{Parts, encoded_by}
 use Rattle.relation.proofs.Relations.{found-key, found-state, insert-put, missing-spare, missing-state, inserted-put, put-found, sorted-put}
-use Rattle.relation.proofs.Encoded.{bytes_of, encoded-at, encoded-put_new, encoded-put_old, few-put, found-entry}
+use Rattle.relation.proofs.Encoded.{bytes_of, encoded-at, encoded-grown, encoded-put_new, encoded-put_old, encoded-sorted, found-entry}
 use Rattle.relation.proofs.relation.Relation.set.Goals as goal
 
 pub unreachable-requires : goal.unreachable-requires
@@ -44,7 +44,7 @@ invariant_of-self c =
       room = c.self.invariant.room;
       back = c.self.invariant.back;
       bytes = omega (arith, c.self.invariant.bytes, now, old, least, c.encoded.ensures.value, c.encoded-longer.ensures.value);
-      few = omega (arith, c.self.invariant.bytes, now, old, least, c.encoded.ensures.value, c.encoded-longer.ensures.value, few-put (entries_of kept) _ c.args.key c.args.state _ c.self.invariant.sorted put (ap (λ (p : Parts). p.states) c.self.view_is) c.requires.bytes);
+      few = omega (arith, c.self.invariant.bytes, now, old, least, c.encoded.ensures.value, c.encoded-longer.ensures.value, c.encoded-longer.ensures.most, encoded-sorted (entries_of kept) c.self.invariant.sorted, ap (λ (p : Parts). encoded_by p.states) c.self.view_is, c.requires.bytes);
     }
 
 pub returns-in-Ok-clause-states : goal.returns-in-Ok-clause-states
@@ -77,7 +77,7 @@ invariant_of-self-in-Err c =
       room = omega (arith, c.self.invariant.room, c.in-Some.ensures.len, longer, c.insert.ensures.capacity);
       back = omega (arith, c.self.invariant.back, c.in-Some.ensures.len, longer, c.in-Some.ensures.capacity);
       bytes = omega (arith, c.self.invariant.bytes, now, c.encoded-longer.ensures.value);
-      few = omega (arith, c.self.invariant.bytes, now, c.encoded-longer.ensures.value, few-put (entries_of kept) _ c.args.key c.args.state _ c.self.invariant.sorted put (ap (λ (p : Parts). p.states) c.self.view_is) c.requires.bytes);
+      few = omega (arith, c.self.invariant.bytes, now, c.encoded-longer.ensures.value, c.encoded-longer.ensures.most, encoded-sorted (entries_of kept) c.self.invariant.sorted, ap (λ (p : Parts). encoded_by p.states) c.self.view_is, c.requires.bytes);
     }
 
 pub returns-in-Some-clause-states : goal.returns-in-Some-clause-states
@@ -96,3 +96,22 @@ returns-in-Some-clause-spare c =
     let none = missing-state c.self.inside.entries.items c.deref.result.now c.in-Err.at c.args.key c.deref.ensures.value c.self.invariant.sorted found.1 found.2 in
     let missing : map.get c.args.self.now.states c.args.key ≡ None = ap (λ (p : Parts). map.get p.states c.args.key) (sym c.self.view_is) ∙ none in
     ap (λ (p : Parts). p.spare - 1) c.self.view_is ∙ sym (ap (λ (o : Option State). cond (is_some o) c.args.self.now.spare (c.args.self.now.spare - 1)) missing)
+
+pub returns-in-Ok-clause-bytes : goal.returns-in-Ok-clause-bytes
+returns-in-Ok-clause-bytes c =
+    let kept = c.self.inside.entries.items in
+    let key = found-key kept c.deref.result.now c.in-Ok.at c.args.key c.index_mut.result.now c.index_mut.result.now c.deref.ensures.value c.in-Ok.ensures.found c.index_mut.ensures.value in
+    let here = found-entry kept c.deref.result.now c.in-Ok.at c.args.key c.index_mut.result.now c.index_mut.result.now c.deref.ensures.value c.in-Ok.ensures.found c.index_mut.ensures.value in
+    let put = put-found kept c.deref.result.now c.in-Ok.at c.args.key _ c.args.state c.deref.ensures.value c.self.invariant.sorted c.in-Ok.ensures.found (ap (λ (k : List ℕ). (k, c.args.state)) key) in
+    let now = encoded-put_old (entries_of kept) _ c.in-Ok.at c.args.key c.args.state _ c.self.invariant.sorted here put in
+    encoded-grown (entries_of kept) _ c.args.key c.args.state _ 4717 c.self.invariant.sorted put (ap (λ (p : Parts). p.states) c.self.view_is) (omega (arith, now, c.encoded-longer.ensures.value, c.encoded-longer.ensures.most))
+
+pub returns-in-Some-clause-bytes : goal.returns-in-Some-clause-bytes
+returns-in-Some-clause-bytes c =
+    let kept = c.self.inside.entries.items in
+    let found = c.in-Err.ensures.found in
+    let room : vec_len c.self.inside.entries < vec_capacity c.self.inside.entries = omega (arith, c.self.invariant.room, c.in-Some.ensures.len) in
+    let ok = c.insert.ensures.succeeds room in
+    let put = inserted-put _ kept c.deref.result.now c.insert.new.self.items c.in-Err.at c.args.key c.args.state c.insert.result c.insert.ensures.items ok c.deref.ensures.value found.1 found.2 refl in
+    let now = encoded-put_new kept c.deref.result.now _ c.in-Err.at c.args.key c.args.state c.deref.ensures.value found.1 found.2 put in
+    encoded-grown (entries_of kept) _ c.args.key c.args.state _ 4717 c.self.invariant.sorted put (ap (λ (p : Parts). p.states) c.self.view_is) (omega (arith, now, c.encoded-longer.ensures.value, c.encoded-longer.ensures.most))

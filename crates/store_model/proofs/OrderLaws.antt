@@ -1,0 +1,63 @@
+-- The places that contents take don't hang on the order of what is owned.
+use Rattle.std.proofs.Common.{◌≡◌, ℕ, List, [], ◌∷◌, ◌++◌, length, Option, Some, None, refl, ◌∙◌}
+use Rattle.std.specs.List.Sorted.{IsPermutation}
+use Rattle.std.proofs.lemmas.List.Sorted.{IsPermutation-append_right, IsPermutation-cons, IsPermutation-sym}
+use Rattle.store_model.specs.Judgement.{placed_then, places_for}
+use Rattle.store_model.specs.Places.{fit, found_then, taken, tiers_for}
+use Rattle.store_model.specs.Space.{Block, Fit, IsFree, IsFull, IsLeastFree, blocks_of}
+use Rattle.store_model.specs.Transaction.{Change, content_of}
+use Rattle.store_model.proofs.FitLaws.{Fit-fit, Fit-unique}
+use Rattle.store_model.proofs.PlaceLaws.{owners-permutation}
+
+-- the least free place is the one that fits
+pub taken-found : (owned : List Block) (tier pages head : ℕ) → IsLeastFree owned tier pages head
+    → fit owned tier pages ≡ Some head
+taken-found owned tier pages head least =
+    Fit-unique owned tier pages (fit owned tier pages) (Some head) (Fit-fit owned tier pages) least
+
+-- where no place is free, none fits
+pub taken-full : (owned : List Block) (tier pages : ℕ) → IsFull owned tier pages → fit owned tier pages ≡ None
+taken-full owned tier pages full = Fit-unique owned tier pages (fit owned tier pages) None (Fit-fit owned tier pages) full
+
+-- a free place is free in each order of what is owned
+free-moved : (a b : List Block) (tier pages head : ℕ) → IsPermutation a b → IsFree a tier pages head
+    → IsFree b tier pages head
+free-moved a b tier pages head moves free = record {
+  aligned = free.aligned;
+  within = free.within;
+  clear = λ page lies. owners-permutation a b page moves ∙ free.clear page lies;
+}
+
+fit-moved : (a b : List Block) (tier pages : ℕ) (o : Option ℕ) → IsPermutation a b → Fit a tier pages o → Fit b tier pages o
+fit-moved a b tier pages None moves full = λ head free.
+    full head (free-moved b a tier pages head (IsPermutation-sym a b moves) free)
+fit-moved a b tier pages (Some head) moves least = record {
+  free = free-moved a b tier pages head moves least.free;
+  least = λ other less free. least.least other less (free-moved b a tier pages other (IsPermutation-sym a b moves) free);
+}
+
+-- what fits doesn't hang on the order
+pub fit-permutation : (a b : List Block) (tier pages : ℕ) → IsPermutation a b → fit a tier pages ≡ fit b tier pages
+fit-permutation a b tier pages moves =
+    Fit-unique b tier pages (fit a tier pages) (fit b tier pages)
+    (fit-moved a b tier pages (fit a tier pages) moves (Fit-fit a tier pages)) (Fit-fit b tier pages)
+
+-- nor do the blocks that are taken one after the other
+pub taken-permutation : (pages : ℕ) (tiers : List ℕ) (a b : List Block) → IsPermutation a b
+    → taken pages tiers a ≡ taken pages tiers b
+taken-permutation pages [] a b moves = refl
+taken-permutation pages (tier ∷ tiers) a b moves = λ i.
+    found_then tier (fit-permutation a b tier pages moves i)
+    (λ head.
+    taken-permutation pages tiers ((head, tier) ∷ a) ((head, tier) ∷ b) (IsPermutation-cons (head, tier) a b moves) i)
+
+-- nor do the places of changes
+pub places_for-permutation : (pages : ℕ) (changes : List (List ℕ × Change)) (a b : List Block) → IsPermutation a b
+    → places_for pages changes a ≡ places_for pages changes b
+places_for-permutation pages [] a b moves = refl
+places_for-permutation pages (change ∷ changes) a b moves = λ i.
+    placed_then change.0 (length (content_of change.1))
+    (taken-permutation pages (tiers_for (length (content_of change.1))) a b moves i)
+    (λ place.
+    places_for-permutation pages changes (blocks_of place ++ a) (blocks_of place ++ b)
+    (IsPermutation-append_right (blocks_of place) a b moves) i)
