@@ -31,7 +31,10 @@ pub fn verify<D: Disk>(disk: &mut D, layout: Layout, state: &BlobState) -> Resul
     ensures whole { IsTrue D.tells → result ≡ Ok Whole → Verifies (D.story disk.old).reads (data_page layout) state.now }
     ensures damaged { IsTrue D.tells → (link : ℕ) (want got : List ℕ) → result ≡ Ok (Damaged link want got)
         → FailsFirst (D.story disk.old).reads (data_page layout) state.now link want got }
-    // Whatever the disk tells, the two values are different ones.
+    // Whatever the disk tells, the link is one of the state's, `want` is what the state keeps of it, and the two values
+    // are different ones.
+    ensures link { (link : ℕ) (want got : List ℕ) → result ≡ Ok (Damaged link want got) → link ≤ length state.now.extents }
+    ensures kept { (link : ℕ) (want got : List ℕ) → result ≡ Ok (Damaged link want got) → want ≡ kept state.now link }
     ensures differ { (link : ℕ) (want got : List ℕ) → result ≡ Ok (Damaged link want got) → want ≢ got }
 
     // Each page of a whole content is read once.

@@ -1,20 +1,18 @@
 -- How many bytes entries take where they are stored, as entries come and go.
-use Rattle.std.proofs.Common.{◌≡◌, ℕ, zero, suc, ◌+◌, ◌^◌, ◌<◌, ◌≤◌, List, [], ◌∷◌, ◌++◌, take, drop, length, get_or, Some, refl, sym, ◌∙◌, ap, subst, arith}
+use Rattle.std.proofs.Common.{◌≡◌, ℕ, zero, suc, ◌+◌, ◌≤◌, List, [], ◌∷◌, ◌++◌, take, drop, length, get_or, Some, refl, sym, ◌∙◌, ap, subst, arith}
 use Rattle.std.proofs.lemmas.List.Sums.{sum_by-cons}
 use Rattle.std.specs.Prelude.{slice_get}
 use Rattle.store_model.specs.State.{State}
 use Rattle.store_model.specs.Tuple.{spelling}
 use Rattle.store_model.specs.Key.{key_order}
-use Rattle.std.specs.FinMap.{FinMap, entries, entries-from_sorted, entries-insert, from_sorted, insert}
-use Rattle.std.specs.FinMap.Entries.{by_order, put}
-use Rattle.std.specs.declared.cmp.Ordering.{Ordering}
-use Rattle.std.specs.declared.cmp.Ordering.TheVariants.{Less, Equal, Greater}
+use Rattle.std.specs.FinMap.{FinMap, entries-from_sorted, from_sorted}
+use Rattle.std.specs.FinMap.Entries.{put}
 use Rattle.relation.specs.Entries.{AllBefore, AllBehind, IsAt, are_sorted, entries_of, entry_of}
 use Rattle.relation.specs.Parts.{encoded_by, encoded_bytes}
 use Rattle.relation.specs.declared.entries.Entry.{Entry}
 use Rattle.relation.proofs.Relations.{entries-without, found-key, found-within, sorted-put}
 use Rattle.relation.proofs.Searches.{slice_get-entries}
-use Rattle.store_model.proofs.SortedLaws.{keys_exact, keys_total, put-new, put-old}
+use Rattle.store_model.proofs.SortedLaws.{put-new, put-old}
 
 -- how many bytes one entry takes
 abbrev pub bytes_of : List ℕ × State → ℕ
@@ -76,20 +74,3 @@ encoded-put_new kept seen fs i k v same before behind is =
 pub encoded-removed : (kept new : List Entry) (i : ℕ) (one : List ℕ × State) → slice_get (entries_of kept) i ≡ Some one → new ≡ take i kept ++ drop (suc i) kept → encoded_bytes (entries_of new) + bytes_of one ≡ encoded_bytes (entries_of kept)
 encoded-removed kept new i one at is =
     ap (λ (es : List (List ℕ × State)). encoded_bytes es + bytes_of one) (ap entries_of is ∙ entries-without kept i) ∙ encoded-without (entries_of kept) i one at
-
--- one more state, or one in the place of another, takes no more bytes than before and its own
-put-most : (k : List ℕ) (v : State) (es : List (List ℕ × State)) → encoded_bytes (put key_order k v es) ≤ encoded_bytes es + bytes_of (k, v)
-put-most k v [] = omega (arith, cons (k, v) [])
-put-most k v (e ∷ es) =
-    elim (key_order k e.0) as (λ (o : Ordering). key_order k e.0 ≡ o → encoded_bytes (by_order o ((k, v) ∷ e ∷ es) ((e.0, v) ∷ es) (e ∷ put key_order k v es)) ≤ encoded_bytes (e ∷ es) + bytes_of (k, v)) [
-      | Less ↦ λ is. omega (arith, cons (k, v) (e ∷ es))
-      | Equal ↦ λ is. omega (arith, cons (e.0, v) es, cons e es, ap (λ (x : List ℕ). bytes_of (x, v)) (keys_exact k e.0 is))
-      | Greater ↦ λ is. omega (arith, cons e (put key_order k v es), cons e es, put-most k v es)
-    ] refl
-
-pub encoded-insert : (m : FinMap key_order State) (k : List ℕ) (v : State) → encoded_by (insert m k v) ≤ encoded_by m + bytes_of (k, v)
-encoded-insert m k v = omega (arith, put-most k v (entries m), ap encoded_bytes (entries-insert keys_total m k v))
-
--- a few bytes more are still few
-pub few-insert : (m : FinMap key_order State) (k : List ℕ) (v : State) → encoded_by m < 2 ^ 61 → bytes_of (k, v) < 2 ^ 61 → encoded_by (insert m k v) < 2 ^ 62
-few-insert m k v few more = omega (arith, encoded-insert m k v, few, more)

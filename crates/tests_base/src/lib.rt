@@ -1,4 +1,4 @@
-//! Tests of the crates of words, numbers, lists, ends and disks, over their public calls.
+//! Tests of the crates below the program, over their public calls.
 #![tactic(auto)]
 
 #[cfg(test)]

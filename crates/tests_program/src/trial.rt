@@ -9,7 +9,7 @@ use io_ends::{MemSink, MemSource};
 use std::alloc::Global;
 use std::process::Abort;
 
-/// A script with every answer but a refusal, and what it is answered.
+/// A script whose lines all succeed, and what it is answered.
 pub(crate) const FIRST: &[u8] =
     b"0 begin\n0 put demo/a x:616263\n0 commit\nlead\n0 begin\n0 get demo/a\n0 stat demo/a\n";
 
