@@ -33,15 +33,11 @@ pub record Counts : Type 0 where
 
 -- a fault is told only where the count of that end rose, and damage only where two values differ
 abbrev pub HasReason : Status → Counts → Counts → Type 0
-HasReason status.Done before now = ⊤
-HasReason (status.NotBuilt line) before now = ⊤
 HasReason status.ReadFault before now = Rose before.source now.source
 HasReason status.WriteFault before now = Rose before.sink now.sink
 HasReason status.DiskFault before now = Rose before.disk now.disk
-HasReason (status.Refused why) before now = ⊤
-HasReason status.OutOfMemory before now = ⊤
-HasReason status.Usage before now = ⊤
 HasReason (status.Damaged key link want got) before now = want ≢ got
+HasReason _ before now = ⊤
 
 -- no count fell
 pub record Later (before now : Counts) : Type 0 where
@@ -170,15 +166,8 @@ step_ending (fault.Damaged key link want got) = status.Damaged key link want got
 
 -- a status other than damage
 abbrev pub IsUndamaged : Status → Type 0
-IsUndamaged status.Done = ⊤
-IsUndamaged (status.NotBuilt line) = ⊤
-IsUndamaged status.ReadFault = ⊤
-IsUndamaged status.WriteFault = ⊤
-IsUndamaged status.DiskFault = ⊤
-IsUndamaged (status.Refused why) = ⊤
-IsUndamaged status.OutOfMemory = ⊤
-IsUndamaged status.Usage = ⊤
 IsUndamaged (status.Damaged key link want got) = ⊥
+IsUndamaged _ = ⊤
 
 -- what a fault in reading a line ends a run with
 abbrev pub reading_ending : LineFault → Status
@@ -189,35 +178,18 @@ reading_ending line.OutOfMemory = status.OutOfMemory
 -- a status with which a script's run ends before its end
 abbrev pub IsRunning : Status → Type 0
 IsRunning status.Done = ⊥
-IsRunning (status.NotBuilt line) = ⊤
-IsRunning status.ReadFault = ⊤
-IsRunning status.WriteFault = ⊤
-IsRunning status.DiskFault = ⊤
 IsRunning (status.Refused why) = ⊥
-IsRunning status.OutOfMemory = ⊤
 IsRunning status.Usage = ⊥
-IsRunning (status.Damaged key link want got) = ⊤
+IsRunning _ = ⊤
 
 -- a status with which a script's run ends
 abbrev pub IsAccepted : Status → Type 0
-IsAccepted status.Done = ⊤
-IsAccepted (status.NotBuilt line) = ⊤
-IsAccepted status.ReadFault = ⊤
-IsAccepted status.WriteFault = ⊤
-IsAccepted status.DiskFault = ⊤
 IsAccepted (status.Refused why) = ⊥
-IsAccepted status.OutOfMemory = ⊤
 IsAccepted status.Usage = ⊥
-IsAccepted (status.Damaged key link want got) = ⊤
+IsAccepted _ = ⊤
 
 -- a status with which no script was run
 abbrev pub IsTurnedAway : Status → Type 0
-IsTurnedAway status.Done = ⊥
-IsTurnedAway (status.NotBuilt line) = ⊥
-IsTurnedAway status.ReadFault = ⊥
-IsTurnedAway status.WriteFault = ⊥
-IsTurnedAway status.DiskFault = ⊥
 IsTurnedAway (status.Refused why) = ⊤
-IsTurnedAway status.OutOfMemory = ⊥
 IsTurnedAway status.Usage = ⊤
-IsTurnedAway (status.Damaged key link want got) = ⊥
+IsTurnedAway _ = ⊥
