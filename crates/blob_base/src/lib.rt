@@ -4,7 +4,9 @@
 mod faults;
 mod key;
 mod lists;
+mod page;
 
 pub use faults::{IoFault, OutOfMemory, StoreRefusal};
 pub use key::{BadKey, Key};
-pub use lists::{Bytes, Bytes64, Keys, Listed, Names, Numbers, Owned, Word};
+pub use lists::{Bytes, Bytes64, Listed, Owned, Word};
+pub use page::PAGE_BYTES;

@@ -2,7 +2,7 @@
 
 ghost use Rattle.std.specs.Prelude.{◌≡◌, ◌<◌, ◌==◌, List, [], ◌∷◌, ◌++◌, length, slice_get, IfOk, OnOk, OnErr};
 
-use crate::{Key, OutOfMemory};
+use crate::OutOfMemory;
 use std::alloc::Global;
 use std::marker::Model;
 
@@ -32,17 +32,8 @@ pub type Word = Bytes;
 /// Numbers of 64 bits.
 pub type Bytes64 = Listed<u64>;
 
-/// Numbers of entries.
-pub type Numbers = Listed<u64>;
-
-/// Keys.
-pub type Keys = Listed<Key>;
-
 /// Extents as head and tier, counted in pages of the data area; a tail page has tier 0.
 pub type Owned = Listed<(u32, u32)>;
-
-/// Names of relations or objects.
-pub type Names = Listed<Bytes>;
 
 impl<T> Listed<T> {
     /// An empty list, which takes no memory.

@@ -81,7 +81,8 @@ fn turn_away(rt: &HostRuntime, words: &[Word]) -> Result<u8, OutOfMemory> {
     Ok(status.code())
 }
 
-// Runs the command line, and answers the exit status.
+// Runs the command line, and answers the exit status. A file is made before a run, of the size that the form asks for: that is
+// all that is read of the words here. The run reads them too, since it is what answers for them, over any disk.
 fn run(rt: &HostRuntime) -> Result<u8, OutOfMemory> {
     let words = words_of(rt)?;
     let words = words.as_slice();

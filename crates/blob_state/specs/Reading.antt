@@ -1,8 +1,9 @@
 -- The fields of a stored tuple, one by one.
-use Rattle.std.specs.Prelude.{ℕ, ◌^◌, nat_le, nat_lt}
+use Rattle.std.specs.Prelude.{ℕ, nat_le, nat_lt}
 use Rattle.std.specs.Int.{w8, w32, w64}
 use Rattle.store_model.specs.Field.{Bytes, Field, KeyText, Number}
 use Rattle.store_model.specs.Shape.{greatest_size}
+use Rattle.store_model.specs.State.{greatest_number}
 use Rattle.store_model.specs.TupleFields.{any_bytes, is_filled, is_head, is_within}
 
 -- the key's length, and the key
@@ -17,7 +18,7 @@ abbrev pub size_field : ℕ → Field
 size_field at = record { at = at; bytes = 4; rule = Number w32 (λ n. nat_le n greatest_size) }
 
 abbrev pub born_field : ℕ → Field
-born_field at = record { at = at; bytes = 8; rule = Number w64 (is_within 1 (2 ^ 62)) }
+born_field at = record { at = at; bytes = 8; rule = Number w64 (is_within 1 greatest_number) }
 
 -- 32 bytes, whatever they are
 abbrev pub any_field : ℕ → Field

@@ -5,14 +5,14 @@ ghost use Rattle.store_model.specs.Disk.{page_bytes};
 ghost use Rattle.store_model.specs.Hash.{Leads, initial_state};
 ghost use Rattle.store_model.specs.Shape.{greatest_size};
 ghost use Rattle.store_model.specs.State.{AreAligned, AreMarks, HasExtents, HasTail, IsDraft, IsDraftOf, IsNumber, IsState, MarksTell, Places, Tells, heads_of, marks_of, prefix_of};
-ghost use Rattle.blob_state.specs.Values.{extents_of, words_of};
+ghost use Rattle.blob_state.specs.Values.{draft_by, extents_of, words_of};
 
-use crate::state::{EXTENTS, PAGE_BYTES};
-use crate::{BlobState, Extent};
+use crate::{BlobState, DraftParts, Extent};
 use arrayvec::ArrayVec;
+use blob_base::PAGE_BYTES;
 use sha_resume::{Chain, Digest, Mark};
 use std::marker::Model;
-use tier_table::{TooLong, shape, used};
+use tier_table::{MAX_EXTENTS, TooLong, shape, used};
 
 const PREFIX_BYTES: usize = 32;
 
@@ -23,7 +23,7 @@ pub struct Draft {
     size: u64,
     digest: Digest,
     prefix: [u8; PREFIX_BYTES],
-    marks: ArrayVec<Mark, EXTENTS>,
+    marks: ArrayVec<Mark, MAX_EXTENTS>,
 }
 
 impl Model for Draft {
@@ -59,10 +59,50 @@ impl Draft {
         })
     }
 
-    /// How many bytes the content has. The rules that each draft keeps are a clause here.
+    /// The draft that these are the parts of.
+    pub fn from_parts(parts: DraftParts) -> Draft
+        requires { IsDraft (draft_by parts) }
+        ensures { result ≡ draft_by parts }
+    {
+        let prefix = parts.prefix;
+        Draft {
+            size: parts.size,
+            digest: parts.digest,
+            prefix,
+            marks: parts.marks,
+        }
+    }
+
+    /// Its parts.
+    pub fn into_parts(self) -> DraftParts
+        ensures parts { draft_by result ≡ self }
+        ensures rules { IsDraft self }
+    {
+        let Draft {
+            size,
+            digest,
+            prefix,
+            marks,
+        } = self;
+        DraftParts {
+            size,
+            digest,
+            prefix,
+            marks,
+        }
+    }
+
+    /// The rules that each draft keeps.
+    pub fn rules(&self)
+        ensures { IsDraft self.now }
+    {
+        // They are known where a field is read.
+        let _ = &self.size;
+    }
+
+    /// How many bytes the content has.
     pub fn size(&self) -> u64
-        ensures value { result ≡ self.now.size }
-        ensures rules { IsDraft self.now }
+        ensures { result ≡ self.now.size }
     {
         self.size
     }
@@ -83,7 +123,12 @@ impl Draft {
     }
 
     /// The state with its extents at these heads and its tail on this page, written by the entry of this number.
-    pub fn place(&self, heads: &ArrayVec<u32, 127>, tail: Option<u32>, born: u64) -> BlobState
+    pub fn place(
+        &self,
+        heads: &ArrayVec<u32, MAX_EXTENTS>,
+        tail: Option<u32>,
+        born: u64,
+    ) -> BlobState
         requires count { length heads.now.items ≡ length self.now.marks }
         requires aligned { AreAligned heads.now.items }
         requires tail { HasTail self.now.size tail }
@@ -106,10 +151,10 @@ impl Draft {
 }
 
 // Hashes the full pages of a content extent by extent, and adds the mark at the end of each.
-fn hash_extents(content: &[u8], extents: u32, marks: &mut ArrayVec<Mark, EXTENTS>) -> Chain
+fn hash_extents(content: &[u8], extents: u32, marks: &mut ArrayVec<Mark, MAX_EXTENTS>) -> Chain
     requires fits { length content.now ≤ greatest_size }
     requires extents { HasExtents (length content.now) extents }
-    requires most { extents ≤ 127 }
+    requires most { extents ≤ MAX_EXTENTS }
     requires none { marks.old.items ≡ [] }
     ensures told { MarksTell (words_of marks.new.items) content.now }
     ensures sound { AreMarks (words_of marks.new.items) }
@@ -141,9 +186,9 @@ fn prefix(content: &[u8]) -> [u8; PREFIX_BYTES]
 
 // Each mark with its head.
 fn join(
-    heads: &ArrayVec<u32, EXTENTS>,
-    marks: &ArrayVec<Mark, EXTENTS>,
-) -> ArrayVec<Extent, EXTENTS>
+    heads: &ArrayVec<u32, MAX_EXTENTS>,
+    marks: &ArrayVec<Mark, MAX_EXTENTS>,
+) -> ArrayVec<Extent, MAX_EXTENTS>
     requires { length heads.now.items ≡ length marks.now.items }
     ensures heads { heads_of (extents_of result.items) ≡ heads.now.items }
     ensures marks { marks_of (extents_of result.items) ≡ words_of marks.now.items }

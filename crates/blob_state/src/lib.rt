@@ -4,11 +4,13 @@
 mod draft;
 mod reader;
 mod state;
+mod stored;
 mod tuple;
 mod values;
 
 pub use draft::Draft;
 pub use reader::{BadTuple, Tuple, decode};
-pub use state::BlobState;
+pub use state::{BlobState, MAX_NUMBER};
+pub use stored::{MAX_TUPLE_BYTES, stored_bytes};
 pub use tuple::{encode, encode_into};
-pub use values::{Extent, Print};
+pub use values::{DraftParts, Extent, StateParts};

@@ -1,27 +1,23 @@
 // The stored form of a key with its object's state, read back.
 
 ghost use Rattle.std.specs.Prelude.{◌≡◌, ◌==◌, ℕ, ◌+◌, ◌*◌, ◌%◌, ◌<◌, ◌≤◌, List, length, take, drop, IfSome, IfOk, IfErr, OnOk, OnErr, []};
-ghost use Rattle.std.specs.Int.{w32, w64, from_be_bytes};
+ghost use Rattle.std.specs.Int.{w64, from_be_bytes};
 ghost use Rattle.std.specs.List.{flat_map, list_all, range_with_len};
-ghost use Rattle.store_model.specs.Field.{IsFirstBroken, IsGood};
+ghost use Rattle.store_model.specs.Field.{AreGood, IsBroken, IsFirstBroken, IsGood, told_four};
 ghost use Rattle.store_model.specs.Hash.{bytes_of_state};
 ghost use Rattle.store_model.specs.State.{State, HasExtents, HasTail, IsMark};
-ghost use Rattle.store_model.specs.Tuple.{IsAtFront, spelling};
-ghost use Rattle.store_model.specs.TupleFields.{IsBadTuple, content_fields, extent_fields, is_filled, is_head, key_fields, tail_fields, told_key};
+ghost use Rattle.store_model.specs.Tuple.{IsAtFront, spelling, stored_extent};
+ghost use Rattle.store_model.specs.TupleFields.{AreExtentsTold, IsBadTuple, content_fields, extent_fields, is_filled, is_head, key_fields, tail_fields, told_key};
 ghost use Rattle.blob_state.specs.Reading.{born_field, head_field, length_field, prefix_field, size_field};
-ghost use Rattle.store_model.proofs.FieldLaws.{AreGood, IsBroken};
-ghost use Rattle.store_model.proofs.TupleFieldLaws.{AreExtentsTold};
 ghost use Rattle.blob_state.specs.Values.{extents_of};
 
-use crate::state::{EXTENT_BYTES, EXTENTS, FIELDS_BYTES, PAGE_BYTES, tail_bytes};
+use crate::state::MAX_NUMBER;
+use crate::stored::{EXTENT_BYTES, FIELDS_BYTES, stored_bytes};
 use crate::{BlobState, Extent};
 use arrayvec::ArrayVec;
-use blob_base::Key;
+use blob_base::{Key, PAGE_BYTES};
 use sha_resume::{Digest, Mark};
-use tier_table::{shape, tier};
-
-// The greatest number of an entry.
-const MAX_NUMBER: u64 = 1 << 62;
+use tier_table::{MAX_EXTENTS, shape, tier};
 
 /// A key with its object's state, as they stand at the front of some bytes, and how many bytes they take there.
 #[derive(Drop)]
@@ -31,8 +27,8 @@ pub struct Tuple {
     pub length: usize,
 }
 
-/// No tuple stands there. `at` is the offset of the first field that breaks its rule or is cut short; a key that is there
-/// whole and is bad is named at its first bad place.
+/// No tuple stands there. `at` is the offset of the first field that breaks its rule or is cut short; a key that is
+/// there whole and is bad is named at its first bad place.
 #[derive(Clone, Copy, Debug, PartialEq, Eq)]
 pub struct BadTuple {
     pub at: usize,
@@ -69,6 +65,7 @@ pub fn decode(bytes: &[u8], pages: u32) -> Result<Tuple, BadTuple>
     read_extents(bytes, extents_at, fields.extents, pages, &mut extents)?;
     let tail_at = extents_at + EXTENT_BYTES * extents.len();
     let tail = read_tail(bytes, tail_at, fields.size, pages)?;
+    let length = stored_bytes(&key, extents.len(), tail);
     Ok(Tuple {
         key,
         state: BlobState {
@@ -79,7 +76,7 @@ pub fn decode(bytes: &[u8], pages: u32) -> Result<Tuple, BadTuple>
             extents,
             tail,
         },
-        length: tail_at + tail_bytes(tail),
+        length,
     })
 }
 
@@ -131,9 +128,9 @@ fn read_key(bytes: &[u8]) -> Result<Key, BadTuple>
 // The size, and how many extents it has.
 fn read_size(bytes: &[u8], at: usize) -> Result<(u64, u32), BadTuple>
     requires { at ≤ length bytes.now }
-    ensures told { IfOk result (λ read. read.0 ≡ from_be_bytes w32 (take 4 (drop at bytes.now))) }
+    ensures told { IfOk result (λ read. read.0 ≡ told_four bytes.now at) }
     ensures extents { IfOk result (λ read. HasExtents read.0 read.1) }
-    ensures most { IfOk result (λ read. read.1 ≤ 127) }
+    ensures most { IfOk result (λ read. read.1 ≤ MAX_EXTENTS) }
     ensures good { OnOk result (IsGood bytes.now (size_field at)) }
     ensures bad { IfErr result (λ bad. IsBroken bytes.now (size_field at) bad.at) }
 {
@@ -192,15 +189,14 @@ fn read_prefix(bytes: &[u8], at: usize, size: u64) -> Result<&[u8; 32], BadTuple
 // The fields before the extents.
 fn read_fields(bytes: &[u8], at: usize) -> Result<Fields, BadTuple>
     requires { at ≤ length bytes.now }
-    ensures size { IfOk result (λ fields. fields.size ≡ from_be_bytes w32 (take 4 (drop at bytes.now))) }
+    ensures size { IfOk result (λ fields. fields.size ≡ told_four bytes.now at) }
     ensures extents { IfOk result (λ fields. HasExtents fields.size fields.extents) }
-    ensures most { IfOk result (λ fields. fields.extents ≤ 127) }
+    ensures most { IfOk result (λ fields. fields.extents ≤ MAX_EXTENTS) }
     ensures born { IfOk result (λ fields. fields.born ≡ from_be_bytes w64 (take 8 (drop (at + 4) bytes.now))) }
     ensures digest { IfOk result (λ fields. fields.digest.bytes ≡ take 32 (drop (at + 12) bytes.now)) }
     ensures prefix { IfOk result (λ fields. fields.prefix ≡ take 32 (drop (at + 44) bytes.now)) }
     ensures good { IfOk result (λ fields. AreGood bytes.now (content_fields at fields.size)) }
-    ensures bad { IfErr result (λ bad.
-        IsFirstBroken bytes.now (content_fields at (from_be_bytes w32 (take 4 (drop at bytes.now)))) bad.at) }
+    ensures bad { IfErr result (λ bad. IsFirstBroken bytes.now (content_fields at (told_four bytes.now at)) bad.at) }
 {
     let (size, extents) = read_size(bytes, at)?;
     let born = read_born(bytes, at + 4)?;
@@ -217,7 +213,7 @@ fn read_fields(bytes: &[u8], at: usize) -> Result<Fields, BadTuple>
 
 // Whether extent `i` may begin at this page: a multiple of its pages, which are among the data pages.
 fn is_head(pages: u32, i: u32, head: u32) -> bool
-    requires { i < 127 }
+    requires { i < MAX_EXTENTS }
     ensures { result ≡ is_head pages i head }
 {
     let extent_pages = 1 << tier(i);
@@ -227,8 +223,8 @@ fn is_head(pages: u32, i: u32, head: u32) -> bool
 // The head of extent `i`.
 fn read_head(bytes: &[u8], at: usize, i: u32, pages: u32) -> Result<u32, BadTuple>
     requires within { at ≤ length bytes.now }
-    requires extent { i < 127 }
-    ensures told { IfOk result (λ head. head ≡ from_be_bytes w32 (take 4 (drop at bytes.now))) }
+    requires extent { i < MAX_EXTENTS }
+    ensures told { IfOk result (λ head. head ≡ told_four bytes.now at) }
     ensures good { OnOk result (IsGood bytes.now (head_field pages at i)) }
     ensures bad { IfErr result (λ bad. IsBroken bytes.now (head_field pages at i) bad.at) }
 {
@@ -259,10 +255,11 @@ fn words(bytes: &[u8; 32]) -> [u32; 8]
 
 // Extent `i`, where the extents begin at `at`.
 fn read_extent(bytes: &[u8], at: usize, i: u32, pages: u32) -> Result<Extent, BadTuple>
-    requires within { at + 36 * i ≤ length bytes.now }
-    requires extent { i < 127 }
-    ensures head { IfOk result (λ extent. extent.head ≡ from_be_bytes w32 (take 4 (drop (at + 36 * i) bytes.now))) }
-    ensures mark { IfOk result (λ extent. bytes_of_state extent.mark.words ≡ take 32 (drop (at + 36 * i + 4) bytes.now)) }
+    requires within { at + stored_extent * i ≤ length bytes.now }
+    requires extent { i < MAX_EXTENTS }
+    ensures head { IfOk result (λ extent. extent.head ≡ told_four bytes.now (at + stored_extent * i)) }
+    ensures mark { IfOk result (λ extent.
+        bytes_of_state extent.mark.words ≡ take 32 (drop (at + stored_extent * i + 4) bytes.now)) }
     ensures sound { IfOk result (λ extent. IsMark extent.mark.words) }
     ensures good { OnOk result (AreGood bytes.now (extent_fields pages at i)) }
     ensures bad { IfErr result (λ bad. IsFirstBroken bytes.now (extent_fields pages at i) bad.at) }
@@ -282,16 +279,17 @@ fn read_extents(
     at: usize,
     count: u32,
     pages: u32,
-    extents: &mut ArrayVec<Extent, EXTENTS>,
+    extents: &mut ArrayVec<Extent, MAX_EXTENTS>,
 ) -> Result<(), BadTuple>
     requires within { at ≤ length bytes.now }
-    requires most { count ≤ 127 }
+    requires most { count ≤ MAX_EXTENTS }
     requires none { extents.old.items ≡ [] }
     ensures told { OnOk result (AreExtentsTold bytes.now at (extents_of extents.new.items)) }
     ensures number { OnOk result (length extents.new.items ≡ count) }
-    ensures within { OnOk result (at + 36 * count ≤ length bytes.now) }
+    ensures within { OnOk result (at + stored_extent * count ≤ length bytes.now) }
     ensures good { OnOk result (AreGood bytes.now (flat_map (extent_fields pages at) (range_with_len 0 count))) }
-    ensures bad { IfErr result (λ bad. IsFirstBroken bytes.now (flat_map (extent_fields pages at) (range_with_len 0 count)) bad.at) }
+    ensures bad { IfErr result (λ bad.
+        IsFirstBroken bytes.now (flat_map (extent_fields pages at) (range_with_len 0 count)) bad.at) }
 {
     'read: for i in 0..count {
         extents.push(read_extent(bytes, at, i, pages)?);
@@ -303,7 +301,7 @@ fn read_extents(
 fn read_tail(bytes: &[u8], at: usize, size: u64, pages: u32) -> Result<Option<u32>, BadTuple>
     requires { at ≤ length bytes.now }
     ensures has { IfOk result (λ tail. HasTail size tail) }
-    ensures told { IfOk result (λ tail. IfSome tail (λ page. page ≡ from_be_bytes w32 (take 4 (drop at bytes.now)))) }
+    ensures told { IfOk result (λ tail. IfSome tail (λ page. page ≡ told_four bytes.now at)) }
     ensures good { OnOk result (AreGood bytes.now (tail_fields pages at size)) }
     ensures bad { IfErr result (λ bad. IsFirstBroken bytes.now (tail_fields pages at size) bad.at) }
 {

@@ -4,31 +4,20 @@ ghost use Rattle.std.specs.Prelude.{◌≡◌, ◌≤◌, ◌++◌, length, OnOk
 ghost use Rattle.store_model.specs.Holds.{place_of};
 ghost use Rattle.store_model.specs.Space.{blocks_of, extent_blocks, tail_blocks};
 ghost use Rattle.store_model.specs.State.{IsState, heads_of};
-ghost use Rattle.store_model.specs.Tuple.{spelling, tail_spelling};
-ghost use Rattle.blob_state.specs.Values.{extents_of};
+ghost use Rattle.store_model.specs.Tuple.{greatest_tuple, spelling};
+ghost use Rattle.blob_state.specs.Values.{extents_of, state_by};
 
-use crate::{Extent, Print};
+use crate::stored::stored_bytes;
+use crate::{Extent, StateParts};
 use arrayvec::ArrayVec;
 use blob_base::{Key, OutOfMemory, Owned};
 use sha_resume::Digest;
 use std::alloc::Global;
 use std::marker::Model;
-use tier_table::tier;
+use tier_table::{MAX_EXTENTS, tier};
 
-// How many bytes a page has.
-pub(crate) const PAGE_BYTES: usize = 4096;
-
-// The greatest number of extents.
-pub(crate) const EXTENTS: usize = 127;
-
-// How many bytes of a stored state its fields before the extents take.
-pub(crate) const FIELDS_BYTES: usize = 76;
-
-// How many bytes of a stored state an extent takes.
-pub(crate) const EXTENT_BYTES: usize = 36;
-
-// How many bytes of a stored state a tail takes.
-const TAIL_BYTES: usize = 4;
+/// The greatest number of an entry.
+pub const MAX_NUMBER: u64 = 1 << 62;
 
 /// What is kept of an object's content: its size, its digest and its first bytes, for each extent where it stands and
 /// the mark at its end, the page of its tail, and the number of the entry that wrote it.
@@ -41,7 +30,7 @@ pub struct BlobState {
     pub(crate) born: u64,
     pub(crate) digest: Digest,
     pub(crate) prefix: [u8; 32],
-    pub(crate) extents: ArrayVec<Extent, EXTENTS>,
+    pub(crate) extents: ArrayVec<Extent, MAX_EXTENTS>,
     pub(crate) tail: Option<u32>,
 }
 
@@ -58,10 +47,56 @@ impl Model for BlobState {
 }
 
 impl BlobState {
-    /// How many bytes the content has. The rules that each state keeps are a clause here.
+    /// The state that these are the parts of.
+    pub fn from_parts(parts: StateParts) -> BlobState
+        requires { IsState (state_by parts) }
+        ensures { result ≡ state_by parts }
+    {
+        let prefix = parts.prefix;
+        BlobState {
+            size: parts.size,
+            born: parts.born,
+            digest: parts.digest,
+            prefix,
+            extents: parts.extents,
+            tail: parts.tail,
+        }
+    }
+
+    /// Its parts.
+    pub fn into_parts(self) -> StateParts
+        ensures parts { state_by result ≡ self }
+        ensures rules { IsState self }
+    {
+        let BlobState {
+            size,
+            born,
+            digest,
+            prefix,
+            extents,
+            tail,
+        } = self;
+        StateParts {
+            size,
+            born,
+            digest,
+            prefix,
+            extents,
+            tail,
+        }
+    }
+
+    /// The rules that each state keeps.
+    pub fn rules(&self)
+        ensures { IsState self.now }
+    {
+        // They are known where a field is read.
+        let _ = &self.size;
+    }
+
+    /// How many bytes the content has.
     pub fn size(&self) -> u64
-        ensures value { result ≡ self.now.size }
-        ensures rules { IsState self.now }
+        ensures { result ≡ self.now.size }
     {
         self.size
     }
@@ -90,7 +125,7 @@ impl BlobState {
     /// Its extents in order.
     pub fn extents(&self) -> &[Extent]
         ensures value { extents_of result.now ≡ self.now.extents }
-        ensures most { length result.now ≤ 127 }
+        ensures most { length result.now ≤ MAX_EXTENTS }
     {
         self.extents.as_slice()
     }
@@ -100,17 +135,6 @@ impl BlobState {
         ensures { result ≡ self.now.tail }
     {
         self.tail
-    }
-
-    /// Its size and its digest.
-    pub fn print(&self) -> Print
-        ensures size { result.size ≡ self.now.size }
-        ensures digest { result.digest.bytes ≡ self.now.digest }
-    {
-        Print {
-            size: self.size,
-            digest: self.digest,
-        }
     }
 
     /// The same state; it takes no memory.
@@ -130,14 +154,13 @@ impl BlobState {
     /// How many bytes it takes where it is stored with this key.
     pub fn encoded(&self, key: &Key) -> usize
         ensures value { result ≡ length (spelling key.now self.now) }
-        ensures most { result ≤ 4717 }
+        ensures most { result ≤ greatest_tuple }
     {
-        let key_bytes = 1 + key.text().len();
-        key_bytes + FIELDS_BYTES + EXTENT_BYTES * self.extents.len() + tail_bytes(self.tail)
+        stored_bytes(key, self.extents.len(), self.tail)
     }
 
-    /// Adds head and tier of each extent to what is owned, and its tail's page as tier 0. After an `Err` some of them may have
-    /// been added.
+    /// Adds head and tier of each extent to what is owned, and its tail's page as tier 0. After an `Err` some of them may
+    /// have been added.
     pub fn add_owned(&self, alloc: Global, owned: &mut Owned) -> Result<(), OutOfMemory>
         ensures { OnOk result (owned.new ≡ owned.old ++ blocks_of (place_of self.now)) }
     {
@@ -148,7 +171,7 @@ impl BlobState {
 
 // Adds the heads of extents, each with its tier.
 fn add_extents(alloc: Global, extents: &[Extent], owned: &mut Owned) -> Result<(), OutOfMemory>
-    requires { length extents.now ≤ 127 }
+    requires { length extents.now ≤ MAX_EXTENTS }
     ensures { OnOk result (owned.new ≡ owned.old ++ extent_blocks (heads_of (extents_of extents.now))) }
 {
     'added: for i in 0..extents.len() {
@@ -167,19 +190,8 @@ fn add_tail(alloc: Global, tail: Option<u32>, owned: &mut Owned) -> Result<(), O
     }
 }
 
-// How many bytes of a stored state its tail takes.
-pub(crate) fn tail_bytes(tail: Option<u32>) -> usize
-    ensures value { result ≡ length (tail_spelling tail) }
-    ensures most { result ≤ 4 }
-{
-    match tail {
-        Some(_) => TAIL_BYTES,
-        None => 0,
-    }
-}
-
 // The same extents.
-fn copy_extents(from: &ArrayVec<Extent, EXTENTS>) -> ArrayVec<Extent, EXTENTS>
+fn copy_extents(from: &ArrayVec<Extent, MAX_EXTENTS>) -> ArrayVec<Extent, MAX_EXTENTS>
     ensures { result.items ≡ from.now.items }
 {
     let mut copy = ArrayVec::new();

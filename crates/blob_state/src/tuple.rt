@@ -2,17 +2,15 @@
 
 ghost use Rattle.std.specs.Prelude.{◌≡◌, ◌*◌, ◌+◌, ◌++◌, ◌≤◌, length, OnOk, OnErr};
 ghost use Rattle.std.specs.List.{flat_map};
-ghost use Rattle.store_model.specs.Tuple.{spelling, key_spelling, fields_spelling, extent_spelling, places_spelling, state_spelling, tail_spelling};
+ghost use Rattle.store_model.specs.Tuple.{spelling, key_spelling, fields_spelling, extent_spelling, places_spelling, state_spelling, stored_extent, stored_fields, tail_spelling};
 ghost use Rattle.blob_state.specs.Values.{extent_of, extents_of};
 
-use crate::state::{EXTENT_BYTES, FIELDS_BYTES};
+use crate::stored::{EXTENT_BYTES, FIELDS_BYTES, MAX_TUPLE_BYTES};
 use crate::{BlobState, Extent};
 use blob_base::{Bytes, Key, OutOfMemory};
 use byteorder::{BigEndian, ByteOrder};
 use std::alloc::Global;
-
-// The greatest number of bytes of a stored key and state.
-const MOST_BYTES: usize = 4717;
+use tier_table::MAX_EXTENTS;
 
 /// Appends the stored form of a key with its object's state.
 pub fn encode(
@@ -24,7 +22,7 @@ pub fn encode(
     ensures ok { OnOk result (out.new ≡ out.old ++ spelling key.now state.now) }
     ensures err { OnErr result (out.new ≡ out.old) }
 {
-    let mut buffer = [0; MOST_BYTES];
+    let mut buffer = [0; MAX_TUPLE_BYTES];
     let length = state.encoded(key);
     let bytes = &mut buffer[..length];
     encode_into(key, state, bytes);
@@ -63,7 +61,7 @@ fn write_state(state: &BlobState, out: &mut [u8])
 
 // Writes what stands before the extents.
 fn write_fields(state: &BlobState, out: &mut [u8])
-    requires { length out.old ≡ 76 }
+    requires { length out.old ≡ stored_fields }
     ensures { out.new ≡ fields_spelling state.now }
 {
     BigEndian::write_u32(out, state.size as u32);
@@ -73,8 +71,8 @@ fn write_fields(state: &BlobState, out: &mut [u8])
 }
 
 fn write_places(extents: &[Extent], tail: Option<u32>, out: &mut [u8])
-    requires most { length extents.now ≤ 127 }
-    requires room { length out.old ≡ 36 * length extents.now + length (tail_spelling tail) }
+    requires most { length extents.now ≤ MAX_EXTENTS }
+    requires room { length out.old ≡ stored_extent * length extents.now + length (tail_spelling tail) }
     ensures { out.new ≡ places_spelling (extents_of extents.now) tail }
 {
     let (front, back) = out.split_at_mut(EXTENT_BYTES * extents.len());
@@ -83,8 +81,8 @@ fn write_places(extents: &[Extent], tail: Option<u32>, out: &mut [u8])
 }
 
 fn write_extents(extents: &[Extent], out: &mut [u8])
-    requires most { length extents.now ≤ 127 }
-    requires room { length out.old ≡ 36 * length extents.now }
+    requires most { length extents.now ≤ MAX_EXTENTS }
+    requires room { length out.old ≡ stored_extent * length extents.now }
     ensures { out.new ≡ flat_map extent_spelling (extents_of extents.now) }
 {
     'written: for i in 0..extents.len() {
@@ -94,7 +92,7 @@ fn write_extents(extents: &[Extent], out: &mut [u8])
 }
 
 fn write_extent(extent: &Extent, out: &mut [u8])
-    requires { length out.old ≡ 36 }
+    requires { length out.old ≡ stored_extent }
     ensures { out.new ≡ extent_spelling (extent_of extent.now) }
 {
     BigEndian::write_u32(out, extent.head);

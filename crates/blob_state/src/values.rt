@@ -1,9 +1,11 @@
-// The values that a state has.
+// The values that a state has, and the parts of states and drafts.
 
 ghost use Rattle.std.specs.Prelude.{◌≡◌};
 ghost use Rattle.store_model.specs.Hash.{initial_state};
 
+use arrayvec::ArrayVec;
 use sha_resume::{Digest, Mark, START};
+use tier_table::MAX_EXTENTS;
 
 /// An extent of a content: its first page, counted in the data area, and the SHA-256 state after all bytes of the
 /// content up to the end of the pages that it uses of this extent.
@@ -24,9 +26,22 @@ impl Default for Extent {
     }
 }
 
-/// What tells one content from another: its size and its digest.
-#[derive(Clone, Copy, Debug, PartialEq, Eq)]
-pub struct Print {
+/// What a state is made of.
+#[derive(Drop)]
+pub struct StateParts {
+    pub size: u64,
+    pub born: u64,
+    pub digest: Digest,
+    pub prefix: [u8; 32],
+    pub extents: ArrayVec<Extent, MAX_EXTENTS>,
+    pub tail: Option<u32>,
+}
+
+/// What a draft is made of.
+#[derive(Drop)]
+pub struct DraftParts {
     pub size: u64,
     pub digest: Digest,
+    pub prefix: [u8; 32],
+    pub marks: ArrayVec<Mark, MAX_EXTENTS>,
 }

@@ -1,8 +1,9 @@
 -- The words of a command line, one by one.
 use Rattle.std.proofs.Common.{◌≡◌, ◌≢◌, ◌==◌, ℕ, ◌^◌, ◌<◌, ◌≤◌, List, [], ◌∷◌, length, get_or, decimal, false, arith, codes, refl, sym}
 use Rattle.std.proofs.lemmas.Fmt.{decimal_injective}
-use Rattle.store_model.specs.Form.{IsFresh}
+use Rattle.store_model.specs.Form.{Form, Fresh, IsForm, IsFresh, IsNoForm}
 use Rattle.store_model.specs.Layout.{Layout}
+use Rattle.blob_steps.specs.Runs.{layout_of}
 
 -- the four words of which a command line consists
 pub four_words : (words : List (List ℕ)) (one two three four : List ℕ) → 4 ≤ length words → length words < 5
@@ -40,3 +41,11 @@ same_layout words one two first second =
     let units : one.units ≡ two.units = sym same.0 in
     let room : one.room ≡ two.room = sym same.1 in
     λ i. record { units = units i; room = room i }
+
+-- words that are no layout's are no form
+pub no_form : (words : List (List ℕ)) → ((layout : Layout) → IsFresh words layout → ⊥) → IsNoForm words
+no_form words none (Fresh layout) is = none layout is
+
+-- the words have one form
+pub same_form : (words : List (List ℕ)) (one two : Form) → IsForm words one → IsForm words two → layout_of one ≡ layout_of two
+same_form words (Fresh one) (Fresh two) first second = same_layout words one two first second

@@ -13,3 +13,6 @@ pub mod Objects
 pub mod Values
 pub mod Writing
 pub mod Judging
+pub mod Doing
+pub mod OwnedPages
+pub mod WholeRun

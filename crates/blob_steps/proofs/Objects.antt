@@ -1,5 +1,5 @@
 -- Maps of states and of objects, side by side, and what the states own.
-use Rattle.std.proofs.Common.{◌≡◌, ℕ, ◌+◌, ◌*◌, ◌≤◌, true, false, cond, List, [], ◌∷◌, ◌++◌, length, drop, Option, Some, None, inl, inr, refl, sym, ◌∙◌, ap, subst, arith, append_assoc}
+use Rattle.std.proofs.Common.{◌≡◌, ℕ, ◌+◌, ◌^◌, ◌<◌, ◌≤◌, Bool, true, false, cond, List, [], ◌∷◌, ◌++◌, length, Option, Some, None, inl, inr, refl, sym, ◌∙◌, ap, subst, arith, append_assoc}
 use Rattle.std.proofs.lemmas.Bool.{cases_Bool}
 use Rattle.std.proofs.lemmas.List.{nil_from_length}
 use Rattle.std.proofs.lemmas.List.Elements.{Contains-append_left, Contains-append_right}
@@ -10,21 +10,26 @@ use Rattle.std.specs.List.Sorted.{IsPermutation}
 use Rattle.std.specs.FinMap.{FinMap, empty, entries, get, get-entries, get-insert, insert, len, len-empty, len-entries}
 use Rattle.std.specs.FinMap.Entries.{find}
 use Rattle.std.specs.Ordering.{eq_by_cmp}
-use Rattle.store_model.specs.Disk.{Image, SameOff, page_bytes, page_of}
-use Rattle.store_model.specs.Holds.{Holds, HoldsFront, IsPoured, place_of, rest_of}
-use Rattle.store_model.specs.Images.{Story, Wrote}
+use Rattle.store_model.specs.Disk.{Image, SameOff, page_of}
+use Rattle.store_model.specs.Holds.{Holds, HoldsAt, IsPoured, ObjectStands, place_of, rest_of}
 use Rattle.store_model.specs.Key.{key_order}
 use Rattle.store_model.specs.Layout.{Layout, data_page, data_pages}
 use Rattle.store_model.specs.Space.{AreBlocks, IsOwnedPage, Block, blocks_of, owners}
-use Rattle.store_model.specs.State.{IsState, State, Tells}
-use Rattle.store_model.specs.Store.{Object, Place}
-use Rattle.store_model.proofs.EntryLaws.{blocks-insert, old_part}
-use Rattle.store_model.proofs.HeldLaws.{IsPoured-page, Stands-poured}
+use Rattle.store_model.specs.Standing.{AllStand, BothStand, SameObjects, StandsFor}
+use Rattle.store_model.specs.State.{IsState, State}
+use Rattle.store_model.specs.Store.{Object, Placement}
+use Rattle.store_model.proofs.EntryLaws.{blocks-insert, old_part, sum-insert}
+use Rattle.store_model.proofs.StoredLaws.{length-stored}
+use Rattle.store_model.proofs.HeldLaws.{IsPoured-page, ObjectStands-poured}
 use Rattle.store_model.proofs.PlaceLaws.{owners-append}
 use Rattle.store_model.proofs.SortedLaws.{keys_total}
-use Rattle.store_model.specs.Tuple.{spelling}
+use Rattle.store_model.specs.Judgement.{object_bytes}
+use Rattle.store_model.specs.Tuple.{greatest_tuple, spelling}
 use Rattle.relation.specs.Parts.{encoded_by, owned_by}
-use Rattle.blob_steps.specs.Stores.{BothStand, SameObjects, StandsFor, old_blocks}
+use Rattle.disk_model.specs.Disks.{OnlyWrites}
+use Rattle.disk_model.specs.declared.disk.Disk.{Ghosts}
+use Rattle.disk_model.proofs.DiskLaws.{OnlyWrites-wider}
+use Rattle.blob_steps.specs.Stores.{old_blocks}
 
 -- what a value gives stands among what all values of a map give
 module _ {V X : Type 0} (g : V → List X) where
@@ -87,86 +92,75 @@ owned-within pages layout owned states key state blocks pages_is moves there blo
     (Contains-permutation (owned_by states) owned block (IsPermutation-sym owned (owned_by states) moves)
     (Contains-owned states key state block there is))
 
--- A state that a content is written for stands for its object.
-pub StandsFor-poured : (layout : Layout) (old new : Image) (state : State) (content rest : List ℕ) (number : ℕ)
-    (place : Place)
-    → IsState state → state.born ≡ number → place_of state ≡ place → Tells state content → rest ≡ content
-    → ((all : List ℕ) → length all ≡ state.size → rest ≡ drop (page_bytes * 0) all
-    → HoldsFront 0 old (data_page layout) (place_of state) all → Holds new (data_page layout) (place_of state) all)
+-- an object whose content was written stands
+pub ObjectStands-written : (layout : Layout) (new : Image) (state : State) (content rest : List ℕ) (number : ℕ) (place : Placement)
+    → place_of state ≡ place → rest ≡ content → Holds new (data_page layout) state content
     → ((page : ℕ) → state.tail ≡ Some page → new (data_page layout + page) ≡ page_of (rest_of rest))
-    → StandsFor new (data_page layout) state (record { content = content; number = number; place = place })
-StandsFor-poured layout old new state content rest number place sound number_is place_is tells rest_is holds filled = record {
-  sound = sound;
-  number = number_is;
-  place = place_is;
-  tells = tells;
-  stands = record {
-    held = subst (λ (p : Place). Holds new (data_page layout) p content) place_is
-        (holds content (sym tells.size) rest_is (λ page at less stands. absurd (omega (arith, less))));
-    filled = λ page is. filled page (ap (λ (p : Place). p.tail) place_is ∙ is) ∙ ap (λ xs. page_of (rest_of xs)) rest_is;
-  };
+    → ObjectStands new (data_page layout) (record { content = content; number = number; place = place })
+ObjectStands-written layout new state content rest number place place_is rest_is holds filled = record {
+  held = subst (λ (p : Placement). HoldsAt new (data_page layout) p content) place_is holds.at;
+  filled = λ page is. filled page (ap (λ (p : Placement). p.tail) place_is ∙ is) ∙ ap (λ xs. page_of (rest_of xs)) rest_is;
 }
 
--- what stands elsewhere stands on
-BothStand-poured : (layout : Layout) (state : State) (old new : Image) (one : Option State) (object : Option Object)
-    → SameOff (IsPoured layout state 0) old new
-    → ((page : ℕ) → owners (old_blocks one) page + owners (blocks_of (place_of state)) page ≤ 1)
-    → BothStand old (data_page layout) one object → BothStand new (data_page layout) one object
-BothStand-poured layout state old new None None same apart stands = stands
-BothStand-poured layout state old new (Some one) (Some object) same apart stands = record {
-  sound = stands.sound;
-  number = stands.number;
-  place = stands.place;
-  tells = stands.tells;
-  stands = Stands-poured layout state 0 old new object same
-      (λ at. subst (λ (p : Place). owners (blocks_of p) at + owners (blocks_of (place_of state)) at ≤ 1) stands.place
-      (apart at))
-      stands.stands;
-}
-BothStand-poured layout state old new None (Some object) same apart stands = stands
-BothStand-poured layout state old new (Some one) None same apart stands = stands
+-- the state that stands for an object
+state-of : (state : Option State) (object : Option Object) (one : Object) → BothStand state object → object ≡ Some one
+    → (s : State) × (state ≡ Some s) × StandsFor s one
+state-of None None one stands is = absurd (cc is)
+state-of None (Some object) one stands is = absurd stands
+state-of (Some state) None one stands is = absurd stands
+state-of (Some state) (Some object) one stands is =
+    let same : object ≡ one = cc is in (state, refl, subst (StandsFor state) same stands)
 
--- what was under a key shares no page with a state that shares none with all
-old-apart : (states : FinMap key_order State) (key : List ℕ) (state : State) (one : Option State) (page : ℕ)
-    → get states key ≡ one
-    → owners (blocks_of (place_of state)) page + owners (owned_by states) page ≤ 1
-    → owners (old_blocks one) page + owners (blocks_of (place_of state)) page ≤ 1
-old-apart states key state None page there apart = omega (arith, apart)
-old-apart states key state (Some one) page there apart = omega (arith, apart, owners-owned states key one page there)
-
--- A key is set on both sides, to what stands for each other, where the content was written to pages that nothing owned.
-pub SameObjects-poured : (layout : Layout) (old new : Image) (before after : FinMap key_order State)
-    (objects : FinMap key_order Object)
-    (key : List ℕ) (state : State) (object : Object)
-    → after ≡ insert before key state → SameOff (IsPoured layout state 0) old new
-    → ((page : ℕ) → owners (blocks_of (place_of state)) page + owners (owned_by before) page ≤ 1)
-    → StandsFor new (data_page layout) state object → SameObjects old (data_page layout) before objects
-    → SameObjects new (data_page layout) after (insert objects key object)
-SameObjects-poured layout old new before after objects key state object after_is same apart stands so_far q =
-    subst (λ (m : FinMap key_order State). BothStand new (data_page layout) (get m q) (get (insert objects key object) q))
+-- A key is set on both sides, to what stands for each other.
+pub SameObjects-set : (before after : FinMap key_order State) (objects : FinMap key_order Object) (key : List ℕ) (state : State) (object : Object)
+    → after ≡ insert before key state → StandsFor state object → SameObjects before objects → SameObjects after (insert objects key object)
+SameObjects-set before after objects key state object after_is stands so_far q =
+    subst (λ (m : FinMap key_order State). BothStand (get m q) (get (insert objects key object) q))
     (sym after_is)
     (rw (get-insert keys_total before key state q, get-insert keys_total objects key object q)
     (elim (eq_by_cmp key_order q key) as (λ b.
-    BothStand new (data_page layout) (cond b (Some state) (get before q)) (cond b (Some object) (get objects q))) [
+    BothStand (cond b (Some state) (get before q)) (cond b (Some object) (get objects q))) [
       | true ↦ stands
-      | false ↦
-          BothStand-poured layout state old new (get before q) (get objects q) same
-          (λ page. old-apart before q state (get before q) page refl (apart page)) (so_far q)
+      | false ↦ so_far q
     ]))
+
+-- the objects stand where one more does, whose content was written to pages that nothing owned
+stand-set : (layout : Layout) (old new : Image) (before : FinMap key_order State) (objects : FinMap key_order Object) (state : State) (object one : Object)
+    (q : List ℕ) (here : Bool) → SameOff (IsPoured layout state 0) old new
+    → ((page : ℕ) → owners (blocks_of (place_of state)) page + owners (owned_by before) page ≤ 1)
+    → ObjectStands new (data_page layout) object → SameObjects before objects → AllStand old layout objects
+    → cond here (Some object) (get objects q) ≡ Some one → ObjectStands new (data_page layout) one
+stand-set layout old new before objects state object one q true same apart stands so_far all is =
+    let equal : object ≡ one = cc is in subst (ObjectStands new (data_page layout)) equal stands
+stand-set layout old new before objects state object one q false same apart stands so_far all is =
+    let known = state-of (get before q) (get objects q) one (so_far q) is in
+    ObjectStands-poured layout state 0 old new one same
+    (λ at. subst (λ (p : Placement). owners (blocks_of p) at + owners (blocks_of (place_of state)) at ≤ 1) known.2.place
+    (omega (arith, apart at, owners-owned before q known.0 at known.1)))
+    (all q one is)
+
+pub AllStand-set : (layout : Layout) (old new : Image) (before : FinMap key_order State) (objects : FinMap key_order Object) (key : List ℕ) (state : State)
+    (object : Object) → SameOff (IsPoured layout state 0) old new
+    → ((page : ℕ) → owners (blocks_of (place_of state)) page + owners (owned_by before) page ≤ 1)
+    → ObjectStands new (data_page layout) object → SameObjects before objects → AllStand old layout objects
+    → AllStand new layout (insert objects key object)
+AllStand-set layout old new before objects key state object same apart stands so_far all q one is =
+    stand-set layout old new before objects state object one q (eq_by_cmp key_order q key) same apart stands so_far all
+    (sym (get-insert keys_total objects key object q) ∙ is)
 
 old-part : (one : Option State) → old_part (λ (s : State). blocks_of (place_of s)) one ≡ old_blocks one
 old-part None = refl
 old-part (Some state) = refl
 
 -- what a set key's state owns comes in the place of what its state before did
-pub owned-insert : (before after : FinMap key_order State) (key : List ℕ) (state : State) (place : Place)
+pub owned-insert : (before after : FinMap key_order State) (key : List ℕ) (state : State) (place : Placement)
     → after ≡ insert before key state → place_of state ≡ place
     → IsPermutation (old_blocks (get before key) ++ owned_by after) (blocks_of place ++ owned_by before)
 owned-insert before after key state place after_is place_is =
     subst (λ (m : FinMap key_order State). IsPermutation (old_blocks (get before key) ++ owned_by m)
     (blocks_of place ++ owned_by before))
     (sym after_is)
-    (subst (λ (p : Place). IsPermutation (old_blocks (get before key) ++ owned_by (insert before key state))
+    (subst (λ (p : Placement). IsPermutation (old_blocks (get before key) ++ owned_by (insert before key state))
     (blocks_of p ++ owned_by before))
     place_is
     (subst (λ (xs : List Block). IsPermutation (xs ++ owned_by (insert before key state))
@@ -193,15 +187,26 @@ encoded-none states empty_is =
     ap (λ (es : List (List ℕ × State)). sum_by (λ e. length (spelling e.0 e.1)) es) (no_entries states empty_is) in
     omega (arith, none)
 
+-- few bytes take few more for one state more
+pub encoded-set : (kept before : FinMap key_order State) (one key : List ℕ) (state : State) (place : Placement) → kept ≡ before → one ≡ key
+    → place_of state ≡ place → encoded_by before ≤ 2 ^ 61 → IsState state → object_bytes key place ≤ greatest_tuple
+    → encoded_by (insert kept one state) < 2 ^ 62
+encoded-set kept before one key state place kept_is one_is place_is few sound most =
+    let bytes : length (spelling one state) ≡ object_bytes one (place_of state) = length-stored one state sound in
+    let small : object_bytes one (place_of state) ≤ greatest_tuple =
+    subst (λ (k : List ℕ). object_bytes k (place_of state) ≤ greatest_tuple) (sym one_is)
+    (subst (λ (p : Placement). object_bytes key p ≤ greatest_tuple) (sym place_is) most) in
+    let same : encoded_by kept ≡ encoded_by before = ap encoded_by kept_is in
+    omega (arith, sum-insert (λ (k : List ℕ) (s : State). length (spelling k s)) kept one state, bytes, small, same, few)
+
 -- only pages of the data area that its place owns were written
-pub poured-off : (layout : Layout) (state : State) (old new : Story) (place : Place)
-    → AreBlocks (data_pages layout) (blocks_of place)
-    → place_of state ≡ place → Wrote (IsPoured layout state 0) old new
-    → SameOff (IsOwnedPage layout (blocks_of place)) old.reads new.reads
-poured-off layout state old new place blocks place_is wrote p off =
-    wrote.reads p
-    (λ poured. off (subst (λ (q : Place). IsOwnedPage layout (blocks_of q) p) place_is (IsPoured-page layout state 0 p
-    (subst (λ (q : Place). AreBlocks (data_pages layout) (blocks_of q)) (sym place_is) blocks) poured)))
+pub OnlyWrites-poured : {D : Type 0} (g : Ghosts D) (layout : Layout) (state : State) (old new : D) (place : Placement)
+    → AreBlocks (data_pages layout) (blocks_of place) → place_of state ≡ place → OnlyWrites g (IsPoured layout state 0) old new
+    → OnlyWrites g (IsOwnedPage layout (blocks_of place)) old new
+OnlyWrites-poured g layout state old new place blocks place_is wrote =
+    OnlyWrites-wider g (IsPoured layout state 0) (IsOwnedPage layout (blocks_of place)) old new
+    (λ p poured. subst (λ (q : Placement). IsOwnedPage layout (blocks_of q) p) place_is (IsPoured-page layout state 0 p
+    (subst (λ (q : Placement). AreBlocks (data_pages layout) (blocks_of q)) (sym place_is) blocks) poured)) wrote
 
 -- a key that is set in a map that stayed the same
 pub set-in : (before kept after : FinMap key_order State) (key one : List ℕ) (state : State) → after ≡ insert kept one state

@@ -1,287 +1,375 @@
 -- A run on the way, and its ends.
-use Rattle.std.proofs.Common.{◌≡◌, ℕ, ◌+◌, ◌≤◌, ◌⊎◌, inl, inr, Bool, false, List, [], ◌∷◌, ◌++◌, take, drop, Option, Some, None, refl, sym, ◌∙◌, ap, subst, append_assoc, append-nil, codes, decimal, Result, Ok, Err, OnOk, OnErr, IfErr}
+use Rattle.std.proofs.Common.{◌≡◌, ℕ, ◌+◌, ◌≤◌, ◌⊎◌, inl, inr, Bool, false, IsTrue, List, [], ◌∷◌, ◌++◌, length, min, take, drop, Option, Some, None, refl, sym, ◌∙◌, ap, subst, arith, append_assoc, append-nil, Result, Ok, Err, OnOk, OnErr, IfErr}
+use Rattle.std.specs.List.{flat_map, sum_by}
+use Rattle.std.proofs.lemmas.Grind.{flat_map-append}
 use Rattle.std.proofs.lemmas.List.{take-append-drop}
-use Rattle.std.specs.Io.KnownBytes.{Appends}
+use Rattle.std.proofs.lemmas.List.Sums.{sum_by-append, sum_by-cons}
+use Rattle.std.specs.Io.KnownBytes.{Appends, prepend_known}
 use Rattle.std.proofs.KnownBytes.{Appends-trans, Appends-nil}
-use Rattle.blob_base.specs.Faults.{Rose, HasCause}
-use Rattle.blob_base.proofs.FaultLaws.{Rose-since}
+use Rattle.blob_base.specs.Faults.{CameFrom, Rose}
+use Rattle.blob_base.proofs.FaultLaws.{KeepsEnd-none, KeepsEnd-then, Rose-since}
+use Rattle.disk_model.proofs.DiskLaws.{Keeps-none, Keeps-then}
+use Rattle.io_ends.specs.declared.traits.Source as source_trait
+use Rattle.io_ends.specs.declared.traits.Sink as sink_trait
 use Rattle.blob_base.specs.declared.faults.IoFault.{IoFault}
 use Rattle.blob_base.specs.declared.faults.IoFault.TheVariants.{Failed, OutOfMemory}
+use Rattle.disk_model.specs.declared.disk.Disk.{Ghosts}
 use Rattle.blob_steps.specs.declared.status.Status.{Status}
 use Rattle.blob_steps.specs.declared.status.Status.TheVariants as status
 use Rattle.blob_steps.specs.declared.world.World.{World}
 use Rattle.blob_steps.specs.declared.line.LineFault.{LineFault}
 use Rattle.blob_steps.specs.declared.line.LineFault.TheVariants as fault
-use Rattle.blob_steps.specs.Steps.{Stands, IsTurn, IsLead, IsDone}
-use Rattle.blob_steps.specs.declared.answer.Answer.{Answer}
-use Rattle.blob_steps.specs.Answers.{text_of}
-use Rattle.blob_steps.specs.Lines.{LineTaken, NoLine}
-use Rattle.blob_steps.specs.Runs.{Going, Took, TookFront, Ended, EndsLine, EndsReading, EndsStep, EndsPrinting, MayCut, TakesStep, BadLine, SomeLine, playing, after_text, reading_ending, step_ending, Closed, IsUndamaged}
 use Rattle.blob_steps.specs.Endings.{ending_of}
+use Rattle.blob_steps.specs.Going.{BadLine, EndsPrinting, EndsReading, EndsStep, Going, PlaysOn, SomeLine, TakesStep, after_lines, playing, reading_ending}
+use Rattle.blob_steps.specs.Lines.{LineTaken, NoLine}
+use Rattle.blob_steps.specs.Runs.{Closed, Ended, IsUndamaged, KeepsEnds, PagesAre, ShowsDamage, TookFront}
+use Rattle.blob_steps.specs.Steps.{CameTo, WorldStands}
+use Rattle.blob_steps.specs.Stores.{Did}
 use Rattle.store_model.specs.Closing.{closing_text}
-use Rattle.std.specs.FinMap.{FinMap, get}
-use Rattle.store_model.specs.Disk.{Image, SameOff}
-use Rattle.store_model.specs.Holds.{Stands as Stored}
-use Rattle.store_model.specs.Key.{key_order}
-use Rattle.store_model.specs.Layout.{Layout, data_page}
-use Rattle.store_model.specs.Space.{IsOwnedPage}
-use Rattle.store_model.specs.State.{State}
-use Rattle.store_model.specs.Store.{Object}
-use Rattle.blob_steps.specs.Faults.{IsStepFault, IsWhole}
-use Rattle.blob_steps.specs.Stores.{BothStand, SameObjects}
-use Rattle.blob_steps.specs.declared.fault.StepFault.{StepFault}
-use Rattle.blob_steps.specs.declared.fault.StepFault.TheVariants as step_fault
-use Rattle.store_model.specs.Answer.{line_end, answer_text, line_text, AnswerLine}
-use Rattle.store_model.specs.Turn.{Action, turn}
+use Rattle.store_model.specs.Cost.{Spent, content_pages, syncs_of}
+use Rattle.store_model.specs.Disk.{Calls}
 use Rattle.store_model.specs.Group as model
-use Rattle.store_model.specs.Play.{Played, play, play_steps, step_play}
-use Rattle.store_model.specs.Script.{Step, Session, Lead, Script, End, AtInputEnd, AtLine, lines_of, step_at, steps_from, step_then}
+use Rattle.store_model.specs.Group.{Committed, Outcome, taken_blocks, world_over}
+use Rattle.store_model.specs.Images.{Wrote}
+use Rattle.store_model.specs.Key.{key_order}
+use Rattle.store_model.specs.Layout.{Layout}
+use Rattle.store_model.specs.Play.{Played, PlayedLine, commits_in, line_of, play, play_steps, step_play, store_behind, taken_in, text_of}
+use Rattle.store_model.specs.Script.{Step, Script, AtInputEnd, AtLine, lines_of, step_at, steps_from, step_then}
+use Rattle.store_model.specs.Space.{Block, IsOwnedPage, blocks_of}
+use Rattle.store_model.specs.Standing.{AllStand}
+use Rattle.store_model.specs.Store.{Object, Store, empty_store}
+use Rattle.std.specs.FinMap.{FinMap}
+use Rattle.store_model.proofs.ImageLaws.{wider, wrote_none, wrote_then}
+use Rattle.blob_steps.proofs.OwnedPages.{no-objects, page-behind, page-front}
 
 -- a fault in reading a line
-pub EndsReading-fault : (one : LineFault) (number : ℕ) (left : Option (List ℕ)) (before now : ℕ) (frugal : Bool) → ((cause : IoFault) → one ≡ fault.Source cause → HasCause cause before now frugal) → EndsReading (reading_ending one) number left before now
+pub EndsReading-fault : (one : LineFault) (number : ℕ) (left : Option (List ℕ)) (before now : ℕ) (frugal : Bool) → ((cause : IoFault) → one ≡ fault.Source cause → CameFrom cause before now frugal) → EndsReading (reading_ending one) number left before now
 EndsReading-fault (fault.Source Failed) number left before now frugal cause = cause Failed refl
 EndsReading-fault (fault.Source OutOfMemory) number left before now frugal cause = tt
 EndsReading-fault fault.OutOfMemory number left before now frugal cause = tt
 
+-- one more line
+flat_map-push : {A B : Type 0} (f : A → List B) (xs : List A) (x : A) → flat_map f (xs ++ x ∷ []) ≡ flat_map f xs ++ f x
+flat_map-push f xs x = flat_map-append f xs (x ∷ []) ∙ ap (λ ys. flat_map f xs ++ ys) (append-nil (f x))
+
+text_of-push : (lines : List PlayedLine) (line : PlayedLine) → text_of (lines ++ line ∷ []) ≡ text_of lines ++ line.text
+text_of-push lines line = flat_map-push (λ (l : PlayedLine). l.text) lines line
+
+commits_in-push : (lines : List PlayedLine) (line : PlayedLine) → commits_in (lines ++ line ∷ []) ≡ commits_in lines ++ line.commits
+commits_in-push lines line = flat_map-push (λ (l : PlayedLine). l.commits) lines line
+
+taken_in-push : (lines : List PlayedLine) (line : PlayedLine) → taken_in (lines ++ line ∷ []) ≡ taken_in lines ++ taken_blocks line.commits
+taken_in-push lines line =
+    ap taken_blocks (commits_in-push lines line)
+    ∙ flat_map-append (λ (commit : Committed). flat_map blocks_of commit.places) (commits_in lines) line.commits
+
+store_behind-push : (start : Store) (lines : List PlayedLine) (line : PlayedLine) → store_behind start (lines ++ line ∷ []) ≡ line.store
+store_behind-push start [] line = refl
+store_behind-push start (one ∷ lines) line = store_behind-push one.store lines line
+
 -- the play of what is left, where its first line asks for a step
 playing-step : (layout : Layout) (number : ℕ) (world : model.World) (line : List ℕ) (lines : List (List ℕ)) (step : Step) → step_at number line ≡ Some step
-    → playing layout number world (line ∷ lines) ≡ after_text (step_play layout world step).text (playing layout (number + 1) (step_play layout world step).world lines)
+    → playing layout number world (line ∷ lines)
+    ≡ after_lines (line_of (step_play layout world step) ∷ []) (playing layout (number + 1) (step_play layout world step).world lines)
 playing-step layout number world line lines step asks =
     let steps : Option Step → Script = λ found. step_then number found (steps_from (number + 1) lines) in
-    ap (λ found. record { text = (play_steps layout world (steps found).steps).text; end = (steps found).end; world = (play_steps layout world (steps found).steps).world }) asks
+    ap (λ found. record { lines = play_steps layout world (steps found).steps; end = (steps found).end }) asks
 
 -- where its first line is none that is built
 playing-bad : (layout : Layout) (number : ℕ) (world : model.World) (line : List ℕ) (lines : List (List ℕ)) → step_at number line ≡ None
-    → playing layout number world (line ∷ lines) ≡ record { text = []; end = AtLine number; world = world }
+    → playing layout number world (line ∷ lines) ≡ record { lines = []; end = AtLine number }
 playing-bad layout number world line lines asks =
     let steps : Option Step → Script = λ found. step_then number found (steps_from (number + 1) lines) in
-    ap (λ found. record { text = (play_steps layout world (steps found).steps).text; end = (steps found).end; world = (play_steps layout world (steps found).steps).world }) asks
+    ap (λ found. record { lines = play_steps layout world (steps found).steps; end = (steps found).end }) asks
 
--- some text, and then more, before a play
-after_text-twice : (one two : List ℕ) (played : Played) → after_text one (after_text two played) ≡ after_text (one ++ two) played
-after_text-twice one two played = ap (λ text. record { text = text; end = played.end; world = played.world }) (sym (append_assoc one two played.text))
-
--- a session's answer ends a line
-EndsLine-answer : (session : ℕ) (line : AnswerLine) → EndsLine (answer_text session line)
-EndsLine-answer session line = inr ((decimal session ++ codes " ") ++ line_text line, refl)
-
--- a lead at this queue prints whole lines
-EndsLine-lead : (layout : Layout) (world : model.World) (queue : List ℕ) → EndsLine (model.lead_queue layout world queue).text
-EndsLine-lead layout world [] = inr (codes "idle", refl)
-EndsLine-lead layout world (session ∷ queue) =
-    EndsLine-answer session (model.reply_line world.store (model.judge_in layout world.store (model.transaction_of (world.sessions session))))
-
--- each step prints whole lines
-EndsLine-step : (layout : Layout) (world : model.World) (step : Step) → EndsLine (step_play layout world step).text
-EndsLine-step layout world (Session number action) = EndsLine-answer number (turn world.store (world.sessions number) action).line
-EndsLine-step layout world Lead = EndsLine-lead layout world world.queue
-
--- whole lines behind whole lines
-EndsLine-append : (one two : List ℕ) → EndsLine one → EndsLine two → EndsLine (one ++ two)
-EndsLine-append one two first (inl none) = subst EndsLine (sym (ap (λ xs. one ++ xs) none ∙ append-nil one)) first
-EndsLine-append one two first (inr more) = inr (one ++ more.0, ap (λ xs. one ++ xs) more.1 ∙ sym (append_assoc one more.0 line_end))
+-- some lines, and then more, before a play
+after_lines-twice : (one two : List PlayedLine) (played : Played) → after_lines one (after_lines two played) ≡ after_lines (one ++ two) played
+after_lines-twice one two played = ap (λ lines. record { lines = lines; end = played.end }) (sym (append_assoc one two played.lines))
 
 -- what is left where a line was taken off a known script
 taken_rest : (script line : List ℕ) (left : Option (List ℕ)) → LineTaken (Some script) line left → (rest : List ℕ) × (left ≡ Some rest) × (lines_of script ≡ line ∷ lines_of rest)
 taken_rest script line None taken = absurd taken
 taken_rest script line (Some rest) taken = (rest, refl, taken)
 
--- the play of a script whose first line asks for a step
-plays-step : (layout : Layout) (number : ℕ) (world : model.World) (script line rest text : List ℕ) (step : Step) → lines_of script ≡ line ∷ lines_of rest → step_at number line ≡ Some step → text ≡ (step_play layout world step).text
-    → playing layout number world (lines_of script) ≡ after_text text (playing layout (number + 1) (step_play layout world step).world (lines_of rest))
-plays-step layout number world script line rest text step taken asks text_is =
-    ap (playing layout number world) taken ∙ playing-step layout number world line (lines_of rest) step asks
-    ∙ ap (λ t. after_text t (playing layout (number + 1) (step_play layout world step).world (lines_of rest))) (sym text_is)
-
--- a step that was played in this layout
-relaid : (base image : Image) (layout : Layout) (world : model.World) (step : Step) (text : List ℕ) (new : World) → new.store.layout ≡ layout → IsDone base image world step text new
-    → (text ≡ (step_play layout world step).text) × Stands base image new (step_play layout world step).world
-relaid base image layout world step text new same done = (
-  done.text_is ∙ ap (λ l. (step_play l world step).text) same,
-  subst (λ l. Stands base image new (step_play l world step).world) same done.stands,
-)
-
-pub Going-next : (base image newer : Image) (mine later : World) (number : ℕ) (left rest old taken more : Option (List ℕ)) (whole : Played) (step : Step) (text : List ℕ)
-    → Going base image mine number left old taken whole → TakesStep number left rest step → later.store.layout ≡ mine.store.layout
-    → ((world : model.World) → Stands base image mine world → IsDone base newer world step text later)
-    → Appends taken more text → Going base newer later (number + 1) rest old more whole
-Going-next base image newer mine later number left rest old taken more whole step text going takes same done took =
-    let layout : Layout = mine.store.layout in
-    let step_done = relaid base newer layout going.world step text later same (done going.world going.stands) in
-    let known : LineTaken (Some going.script) takes.line rest = subst (λ l. LineTaken l takes.line rest) going.left_is takes.taken in
-    let behind = taken_rest going.script takes.line rest known in
-    record {
-      world = (step_play layout going.world step).world;
-      stands = step_done.1;
-      text = going.text ++ text;
-      took = Appends-trans old taken more going.text text going.took took;
-      lines = EndsLine-append going.text text going.lines (subst EndsLine (sym step_done.0) (EndsLine-step layout going.world step));
-      script = behind.0;
-      left_is = behind.1;
-      plays_on =
-          ap (λ l. after_text (going.text ++ text) (playing l (number + 1) (step_play layout going.world step).world (lines_of behind.0))) same
-          ∙ sym (after_text-twice going.text text (playing layout (number + 1) (step_play layout going.world step).world (lines_of behind.0)))
-          ∙ ap (after_text going.text) (sym (plays-step layout number going.world going.script takes.line behind.0 text step behind.2 takes.asks step_done.0))
-          ∙ going.plays_on;
-    }
-
--- the whole text, where it begins with what was printed
-whole_text : (one more : List ℕ) (played whole : Played) → after_text one (after_text more played) ≡ whole → whole.text ≡ (one ++ more) ++ played.text
-whole_text one more played whole e = sym (ap (λ (p : Played). p.text) e) ∙ sym (append_assoc one more played.text)
-
-TookFront-cut : (status : Status) (frugal : Bool) (base image newer : Image) (mine later : World) (number : ℕ) (left rest old taken more : Option (List ℕ)) (whole : Played) (step : Step) (text : List ℕ) (gone : ℕ)
-    → Going base image mine number left old taken whole → TakesStep number left rest step → later.store.layout ≡ mine.store.layout
-    → ((world : model.World) → Stands base image mine world → IsDone base newer world step text later)
-    → Appends taken more (take gone text) → MayCut status frugal → TookFront status frugal old more whole
-TookFront-cut status frugal base image newer mine later number left rest old taken more whole step text gone going takes same done took cut =
-    let layout : Layout = mine.store.layout in
-    let step_done = relaid base newer layout going.world step text later same (done going.world going.stands) in
-    let known : LineTaken (Some going.script) takes.line rest = subst (λ l. LineTaken l takes.line rest) going.left_is takes.taken in
-    let behind = taken_rest going.script takes.line rest known in
-    let left_over = playing layout (number + 1) (step_play layout going.world step).world (lines_of behind.0) in
-    let all : whole.text ≡ (going.text ++ text) ++ left_over.text =
-    whole_text going.text text left_over whole
-    (ap (after_text going.text) (sym (plays-step layout number going.world going.script takes.line behind.0 text step behind.2 takes.asks step_done.0)) ∙ going.plays_on) in
-    record {
-      text = going.text ++ take gone text;
-      took = Appends-trans old taken more going.text (take gone text) going.took took;
-      front = record {
-        rest = drop gone text ++ left_over.text;
-        whole_is = all
-            ∙ ap (λ t. (going.text ++ t) ++ left_over.text) (sym (take-append-drop gone text))
-            ∙ ap (λ t. t ++ left_over.text) (sym (append_assoc going.text (take gone text) (drop gone text)))
-            ∙ append_assoc (going.text ++ take gone text) (drop gone text) left_over.text;
-      };
-      lines = inr cut;
-    }
-
-TookFront-stopped : (status : Status) (frugal : Bool) (base image : Image) (mine : World) (number : ℕ) (left old taken : Option (List ℕ)) (whole : Played)
-    → Going base image mine number left old taken whole → TookFront status frugal old taken whole
-TookFront-stopped status frugal base image mine number left old taken whole going = record {
-  text = going.text;
-  took = going.took;
-  front = record {
-    rest = (playing mine.store.layout number going.world (lines_of going.script)).text;
-    whole_is = sym (ap (λ (p : Played). p.text) going.plays_on);
-  };
-  lines = inl going.lines;
-}
-
-both-stored : (image : Image) (first : ℕ) (state : Option State) (one : Option Object) (object : Object) → BothStand image first state one → one ≡ Some object → Stored image first object
-both-stored image first None None object both is = absurd (cc is)
-both-stored image first (Some state) None object both is = absurd both
-both-stored image first None (Some one) object both is = absurd both
-both-stored image first (Some state) (Some one) object both is = let same : one ≡ object = cc in subst (Stored image first) same both.stands
-
--- objects for which states stand are stored
-objects-stored : (image : Image) (first : ℕ) (states : FinMap key_order State) (objects : FinMap key_order Object) → SameObjects image first states objects
-    → (key : List ℕ) (object : Object) → get objects key ≡ Some object → Stored image first object
-objects-stored image first states objects same key object is = both-stored image first (get states key) (get objects key) object (same key) is
-
--- a run that has printed all
-Took-all : (base image : Image) (mine : World) (number : ℕ) (left old taken : Option (List ℕ)) (whole : Played) (end : End) (going : Going base image mine number left old taken whole)
-    → playing mine.store.layout number going.world (lines_of going.script) ≡ record { text = []; end = end; world = going.world }
-    → (whole.end ≡ end) × Took base image mine.store.layout old taken whole
-Took-all base image mine number left old taken whole end going over =
-    let e : record { text = going.text ++ []; end = end; world = going.world } ≡ whole = ap (after_text going.text) (sym over) ∙ going.plays_on in (
-      sym (ap (λ (p : Played). p.end) e),
-      record {
-        text = subst (Appends old taken) (sym (append-nil going.text) ∙ ap (λ (p : Played). p.text) e) going.took;
-        objects = subst (λ (p : Played). (key : List ℕ) (object : Object) → get p.world.store.objects key ≡ Some object → Stored image (data_page mine.store.layout) object) e
-            (objects-stored image (data_page mine.store.layout) mine.store.relation.states going.world.store.objects going.stands.store.objects);
-        others = subst (λ (p : Played). SameOff (IsOwnedPage mine.store.layout p.world.taken) base image) e going.stands.others;
-      },
+-- where the first line was taken, what is left plays on behind it
+PlaysOn-next : (layout : Layout) (start : Store) (lines : List PlayedLine) (number : ℕ) (world : model.World) (first left rest : Option (List ℕ)) (step : Step)
+    → TakesStep number left rest step → PlaysOn layout start lines number world first left
+    → PlaysOn layout start (lines ++ line_of (step_play layout world step) ∷ []) (number + 1) (step_play layout world step).world first rest
+PlaysOn-next layout start lines number world first left rest step takes plays script known =
+    let on = plays script known in
+    let taken : LineTaken (Some on.0) takes.line rest = subst (λ l. LineTaken l takes.line rest) on.1 takes.taken in
+    let behind = taken_rest on.0 takes.line rest taken in
+    let outcome : Outcome = step_play layout world step in
+    let later : Played = playing layout (number + 1) outcome.world (lines_of behind.0) in (
+      behind.0,
+      behind.1,
+      sym (after_lines-twice lines (line_of outcome ∷ []) later)
+          ∙ ap (after_lines lines) (sym (playing-step layout number world takes.line (lines_of behind.0) step takes.asks))
+          ∙ ap (λ ls. after_lines lines (playing layout number world ls)) (sym behind.2)
+          ∙ on.2,
     )
 
-pub Ended-over : (base image : Image) (mine : World) (number : ℕ) (left old taken : Option (List ℕ)) (whole : Played) (frugal : Bool)
-    → Going base image mine number left old taken whole → NoLine left → Ended status.Done frugal base image mine.store.layout old taken whole
-Ended-over base image mine number left old taken whole frugal going none =
-    let known : NoLine (Some going.script) = subst NoLine going.left_is none in
-    Took-all base image mine number left old taken whole AtInputEnd going (ap (playing mine.store.layout number going.world) known)
+-- the lines that were run are the first ones
+PlaysOn-front : (layout : Layout) (start : Store) (lines : List PlayedLine) (number : ℕ) (world : model.World) (first left : Option (List ℕ))
+    → PlaysOn layout start lines number world first left
+    → (script : List ℕ) → first ≡ Some script → (rest : List PlayedLine) × ((play layout start script).lines ≡ lines ++ rest)
+PlaysOn-front layout start lines number world first left plays script known =
+    let on = plays script known in
+    ((playing layout number world (lines_of on.0)).lines, sym (ap (λ (p : Played). p.lines) on.2))
 
-pub Ended-bad : (base image : Image) (mine : World) (number : ℕ) (left old taken : Option (List ℕ)) (whole : Played)
-    → Going base image mine number left old taken whole → BadLine number left → (whole.end ≡ AtLine number) × Took base image mine.store.layout old taken whole
-Ended-bad base image mine number left old taken whole going bad =
-    let known : BadLine number (Some going.script) = subst (BadLine number) going.left_is bad in
-    Took-all base image mine number left old taken whole (AtLine number) going
-    (ap (playing mine.store.layout number going.world) known.2 ∙ playing-bad mine.store.layout number going.world known.0 known.1 known.3)
+-- all of them, where nothing plays behind them
+PlaysOn-all : (layout : Layout) (start : Store) (lines : List PlayedLine) (number : ℕ) (world : model.World) (first left : Option (List ℕ)) (script : List ℕ)
+    → (plays : PlaysOn layout start lines number world first left) (known : first ≡ Some script) (played : Played)
+    → playing layout number world (lines_of (plays script known).0) ≡ played → played.lines ≡ []
+    → (lines ≡ (play layout start script).lines) × ((play layout start script).end ≡ played.end)
+PlaysOn-all layout start lines number world first left script plays known played is none =
+    let on = plays script known in
+    let whole : after_lines lines played ≡ play layout start script = ap (after_lines lines) (sym is) ∙ on.2 in (
+      sym (append-nil lines) ∙ ap (λ ls. lines ++ ls) (sym none) ∙ ap (λ (p : Played). p.lines) whole,
+      sym (ap (λ (p : Played). p.end) whole),
+    )
 
-pub Ended-reading : (one : Status) (base image : Image) (mine : World) (number : ℕ) (left old taken : Option (List ℕ)) (whole : Played) (frugal : Bool) (before now : ℕ)
-    → Going base image mine number left old taken whole → EndsReading one number left before now → Ended one frugal base image mine.store.layout old taken whole
-Ended-reading (status.NotBuilt line) base image mine number left old taken whole frugal before now going ends =
-    let p = Ended-bad base image mine number left old taken whole going ends.1 in (p.0 ∙ ap AtLine (sym ends.0), p.1)
-Ended-reading status.ReadFault base image mine number left old taken whole frugal before now going ends = TookFront-stopped status.ReadFault frugal base image mine number left old taken whole going
-Ended-reading status.OutOfMemory base image mine number left old taken whole frugal before now going ends = TookFront-stopped status.OutOfMemory frugal base image mine number left old taken whole going
-Ended-reading status.Done base image mine number left old taken whole frugal before now going ends = absurd ends
-Ended-reading status.WriteFault base image mine number left old taken whole frugal before now going ends = absurd ends
-Ended-reading status.DiskFault base image mine number left old taken whole frugal before now going ends = absurd ends
-Ended-reading (status.Refused why) base image mine number left old taken whole frugal before now going ends = absurd ends
-Ended-reading status.Usage base image mine number left old taken whole frugal before now going ends = absurd ends
-Ended-reading (status.Damaged key link want got) base image mine number left old taken whole frugal before now going ends = absurd ends
+-- what one more line makes of a disk
+PagesAre-next : {D : Type 0} (g : Ghosts D) (layout : Layout) (start : Store) (lines : List PlayedLine) (before : FinMap key_order Object) (line : PlayedLine) (was now newer : D)
+    → IsTrue g.tells → (store_behind start lines).objects ≡ before → PagesAre g layout start lines was now
+    → Did g layout before line.store.objects line.commits now newer → PagesAre g layout start (lines ++ line ∷ []) was newer
+PagesAre-next g layout start lines before line was now newer told same pages did =
+    let owned : List Block → ℕ → Type 0 = IsOwnedPage layout in
+    let all : taken_in (lines ++ line ∷ []) ≡ taken_in lines ++ taken_blocks line.commits = taken_in-push lines line in
+    let first : Wrote (owned (taken_in lines ++ taken_blocks line.commits)) (g.story was) (g.story now) =
+    wider (owned (taken_in lines)) (owned (taken_in lines ++ taken_blocks line.commits)) (g.story was) (g.story now)
+    (page-front layout (taken_in lines) (taken_blocks line.commits)) pages.others in
+    let second : Wrote (owned (taken_in lines ++ taken_blocks line.commits)) (g.story now) (g.story newer) =
+    wider (owned (taken_blocks line.commits)) (owned (taken_in lines ++ taken_blocks line.commits)) (g.story now) (g.story newer)
+    (page-behind layout (taken_in lines) (taken_blocks line.commits)) (did.wrote told) in
+    record {
+      objects = subst (λ (s : Store). AllStand (g.story newer).reads layout s.objects) (sym (store_behind-push start lines line))
+          (did.objects told (subst (AllStand (g.story now).reads layout) same pages.objects));
+      others = subst (λ (blocks : List Block). Wrote (owned blocks) (g.story was) (g.story newer)) (sym all)
+          (wrote_then (owned (taken_in lines ++ taken_blocks line.commits)) (g.story was) (g.story now) (g.story newer) first second);
+    }
 
-pub Ended-step : (one : Status) (base image newer : Image) (mine : World) (layout : Layout) (number : ℕ) (left old taken : Option (List ℕ)) (whole : Played) (frugal : Bool) (before now : ℕ)
-    → Going base image mine number left old taken whole → EndsStep one before now → IsUndamaged one → Ended one frugal base newer layout old taken whole
-Ended-step status.DiskFault base image newer mine layout number left old taken whole frugal before now going ends undamaged = TookFront-stopped status.DiskFault frugal base image mine number left old taken whole going
-Ended-step status.OutOfMemory base image newer mine layout number left old taken whole frugal before now going ends undamaged = TookFront-stopped status.OutOfMemory frugal base image mine number left old taken whole going
-Ended-step (status.NotBuilt line) base image newer mine layout number left old taken whole frugal before now going ends undamaged = absurd ends
-Ended-step status.ReadFault base image newer mine layout number left old taken whole frugal before now going ends undamaged = absurd ends
-Ended-step status.Done base image newer mine layout number left old taken whole frugal before now going ends undamaged = absurd ends
-Ended-step status.WriteFault base image newer mine layout number left old taken whole frugal before now going ends undamaged = absurd ends
-Ended-step (status.Refused why) base image newer mine layout number left old taken whole frugal before now going ends undamaged = absurd ends
-Ended-step status.Usage base image newer mine layout number left old taken whole frugal before now going ends undamaged = absurd ends
-Ended-step (status.Damaged key link want got) base image newer mine layout number left old taken whole frugal before now going ends undamaged = absurd undamaged
+-- and what it costs
+Spent-next : (lines : List PlayedLine) (line : PlayedLine) (was now newer : Calls) → Spent lines was now
+    → newer.writes ≡ now.writes + sum_by content_pages line.commits → newer.syncs ≡ now.syncs + min 1 (length line.commits)
+    → Spent (lines ++ line ∷ []) was newer
+Spent-next lines line was now newer spent writes syncs =
+    let pages : sum_by content_pages (commits_in (lines ++ line ∷ [])) ≡ sum_by content_pages (commits_in lines) + sum_by content_pages line.commits =
+    ap (sum_by content_pages) (commits_in-push lines line) ∙ sum_by-append content_pages (commits_in lines) line.commits in
+    let all : sum_by syncs_of (lines ++ line ∷ []) ≡ sum_by syncs_of lines + sum_by syncs_of (line ∷ []) = sum_by-append syncs_of lines (line ∷ []) in
+    let one : sum_by syncs_of (line ∷ []) ≡ syncs_of line + sum_by syncs_of [] = sum_by-cons syncs_of line [] in
+    record { writes = omega (arith, spent.writes, writes, pages); syncs = omega (arith, spent.syncs, syncs, all, one) }
 
-pub Ended-printing : (one : Status) (base image newer : Image) (mine later : World) (layout : Layout) (number : ℕ) (left rest old taken more : Option (List ℕ)) (whole : Played) (frugal : Bool) (before now : ℕ) (step : Step) (text : List ℕ) (gone : ℕ)
-    → Going base image mine number left old taken whole → TakesStep number left rest step → later.store.layout ≡ mine.store.layout
-    → ((world : model.World) → Stands base image mine world → IsDone base newer world step text later)
-    → Appends taken more (take gone text) → EndsPrinting one frugal before now → Ended one frugal base newer layout old more whole
-Ended-printing status.WriteFault base image newer mine later layout number left rest old taken more whole frugal before now step text gone going takes same done took ends =
-    TookFront-cut status.WriteFault frugal base image newer mine later number left rest old taken more whole step text gone going takes same done took tt
-Ended-printing status.OutOfMemory base image newer mine later layout number left rest old taken more whole frugal before now step text gone going takes same done took ends =
-    TookFront-cut status.OutOfMemory frugal base image newer mine later number left rest old taken more whole step text gone going takes same done took ends
-Ended-printing (status.NotBuilt line) base image newer mine later layout number left rest old taken more whole frugal before now step text gone going takes same done took ends = absurd ends
-Ended-printing status.ReadFault base image newer mine later layout number left rest old taken more whole frugal before now step text gone going takes same done took ends = absurd ends
-Ended-printing status.Done base image newer mine later layout number left rest old taken more whole frugal before now step text gone going takes same done took ends = absurd ends
-Ended-printing status.DiskFault base image newer mine later layout number left rest old taken more whole frugal before now step text gone going takes same done took ends = absurd ends
-Ended-printing (status.Refused why) base image newer mine later layout number left rest old taken more whole frugal before now step text gone going takes same done took ends = absurd ends
-Ended-printing status.Usage base image newer mine later layout number left rest old taken more whole frugal before now step text gone going takes same done took ends = absurd ends
-Ended-printing (status.Damaged key link want got) base image newer mine later layout number left rest old taken more whole frugal before now step text gone going takes same done took ends = absurd ends
+-- a run that goes on by a step
+module _ {D : Type 0} (g : Ghosts D) (start : Store) (mine later : World) (number : ℕ) (first left rest old taken : Option (List ℕ)) (was now newer : D)
+    (step : Step) (text : List ℕ) (going : Going g start mine number first left old taken was now) (takes : TakesStep number left rest step)
+    (same : later.store.layout ≡ mine.store.layout)
+    (came : CameTo g going.world (step_play later.store.layout going.world step) text later now newer) where
+  -- the lines with that of the step
+  abbrev lines_with : List PlayedLine
+  lines_with = going.lines ++ line_of (step_play later.store.layout going.world step) ∷ []
+
+  pages-now : IsTrue g.tells → PagesAre g later.store.layout start going.lines was now
+  pages-now told = subst (λ (l : Layout). PagesAre g l start going.lines was now) (sym same) (going.pages told)
+
+  text-now : IsTrue g.tells → text ≡ (step_play later.store.layout going.world step).text
+  text-now told =
+      came.text_is told (subst (λ (s : Store). AllStand (g.story now).reads later.store.layout s.objects) (sym going.store_is) (pages-now told).objects)
+
+  plays-later : PlaysOn later.store.layout start lines_with (number + 1) (step_play later.store.layout going.world step).world first rest
+  plays-later =
+      PlaysOn-next later.store.layout start going.lines number going.world first left rest step takes
+      (subst (λ (l : Layout). PlaysOn l start going.lines number going.world first left) (sym same) going.plays_on)
+
+  pub Going-next : (more : Option (List ℕ)) → Appends taken more text → Going g start later (number + 1) first rest old more was newer
+  Going-next more took =
+      let line : PlayedLine = line_of (step_play later.store.layout going.world step) in
+      record {
+        world = (step_play later.store.layout going.world step).world;
+        stands = came.stands;
+        lines = lines_with;
+        store_is = sym (store_behind-push start going.lines line);
+        took = λ told. subst (Appends old more) (sym (text_of-push going.lines line))
+            (Appends-trans old taken more (text_of going.lines) line.text (going.took told) (subst (Appends taken more) (text-now told) took));
+        pages = λ told. PagesAre-next g later.store.layout start going.lines going.world.store.objects line was now newer told
+            (sym (ap (λ (s : Store). s.objects) going.store_is)) (pages-now told) came.did;
+        counts = λ told. Spent-next going.lines line (g.calls was) (g.calls now) (g.calls newer) (going.counts told) (came.did.writes told) (came.did.syncs told);
+        plays_on = plays-later;
+      }
+
+  -- the sink took a front of what the lines print with that of the step
+  TookFront-cut : (more : Option (List ℕ)) (gone : ℕ) → IsTrue g.tells → Appends taken more (take gone text) → TookFront old more (text_of lines_with)
+  TookFront-cut more gone told took =
+      let line : PlayedLine = line_of (step_play later.store.layout going.world step) in
+      record {
+        text = text_of going.lines ++ take gone text;
+        took = Appends-trans old taken more (text_of going.lines) (take gone text) (going.took told) took;
+        front = record {
+          rest = drop gone text;
+          whole_is = text_of-push going.lines line
+              ∙ ap (λ t. text_of going.lines ++ t) (sym (text-now told) ∙ sym (take-append-drop gone text))
+              ∙ sym (append_assoc (text_of going.lines) (take gone text) (drop gone text));
+        };
+      }
+
+  lines-front : (layout : Layout) → layout ≡ later.store.layout
+      → (script : List ℕ) → first ≡ Some script → (more : List PlayedLine) × ((play layout start script).lines ≡ lines_with ++ more)
+  lines-front layout is script known =
+      subst (λ (l : Layout). (more : List PlayedLine) × ((play l start script).lines ≡ lines_with ++ more)) (sym is)
+      (PlaysOn-front later.store.layout start lines_with (number + 1) (step_play later.store.layout going.world step).world first rest plays-later script known)
+
+  -- the printing of the step's answer failed
+  pub Ended-printing : (one : Status) (more : Option (List ℕ)) (gone : ℕ) (frugal : Bool) (before since : ℕ) → Appends taken more (take gone text)
+      → EndsPrinting one frugal before since → Ended g mine.store.layout start frugal first old more was newer one
+  Ended-printing status.WriteFault more gone frugal before since took ends = record {
+    lines = lines_with;
+    ran = lines-front mine.store.layout (sym same);
+    took = λ told. inr (tt, TookFront-cut more gone told took);
+    pages = λ told. tt;
+    counts = λ told. tt;
+    damage = tt;
+    whole = λ told. tt;
+  }
+  Ended-printing status.OutOfMemory more gone frugal before since took ends = record {
+    lines = lines_with;
+    ran = lines-front mine.store.layout (sym same);
+    took = λ told. inr (ends, TookFront-cut more gone told took);
+    pages = λ told. tt;
+    counts = λ told. tt;
+    damage = tt;
+    whole = λ told. tt;
+  }
+  Ended-printing (status.NotBuilt line) more gone frugal before since took ends = absurd ends
+  Ended-printing status.ReadFault more gone frugal before since took ends = absurd ends
+  Ended-printing status.Done more gone frugal before since took ends = absurd ends
+  Ended-printing status.DiskFault more gone frugal before since took ends = absurd ends
+  Ended-printing (status.Refused why) more gone frugal before since took ends = absurd ends
+  Ended-printing status.Usage more gone frugal before since took ends = absurd ends
+  Ended-printing (status.Damaged key link want got) more gone frugal before since took ends = absurd ends
+
+-- a run that ends where it is, before or at the end of its script
+module _ {D : Type 0} (g : Ghosts D) (start : Store) (mine : World) (number : ℕ) (first left old taken : Option (List ℕ)) (was now : D)
+    (going : Going g start mine number first left old taken was now) where
+  lines-before : (script : List ℕ) → first ≡ Some script → (rest : List PlayedLine) × ((play mine.store.layout start script).lines ≡ going.lines ++ rest)
+  lines-before = PlaysOn-front mine.store.layout start going.lines number going.world first left going.plays_on
+
+  pub Ended-over : (frugal : Bool) → NoLine left → Ended g mine.store.layout start frugal first old taken was now status.Done
+  Ended-over frugal none = record {
+    lines = going.lines;
+    ran = λ script known.
+        let on = going.plays_on script known in
+        let empty : lines_of on.0 ≡ [] = subst NoLine on.1 none in
+        PlaysOn-all mine.store.layout start going.lines number going.world first left script going.plays_on known (record { lines = []; end = AtInputEnd })
+        (ap (playing mine.store.layout number going.world) empty) refl;
+    took = λ told. inl (going.took told);
+    pages = going.pages;
+    counts = going.counts;
+    damage = tt;
+    whole = λ told. tt;
+  }
+
+  pub Ended-bad : (frugal : Bool) → BadLine number left → Ended g mine.store.layout start frugal first old taken was now (status.NotBuilt number)
+  Ended-bad frugal bad = record {
+    lines = going.lines;
+    ran = λ script known.
+        let on = going.plays_on script known in
+        let line : BadLine number (Some on.0) = subst (BadLine number) on.1 bad in
+        PlaysOn-all mine.store.layout start going.lines number going.world first left script going.plays_on known (record { lines = []; end = AtLine number })
+        (ap (playing mine.store.layout number going.world) line.2 ∙ playing-bad mine.store.layout number going.world line.0 line.1 line.3) refl;
+    took = λ told. inl (going.took told);
+    pages = going.pages;
+    counts = going.counts;
+    damage = tt;
+    whole = λ told. tt;
+  }
+
+  pub Ended-reading : (one : Status) (frugal : Bool) (before since : ℕ) → EndsReading one number left before since
+      → Ended g mine.store.layout start frugal first old taken was now one
+  Ended-reading (status.NotBuilt line) frugal before since ends =
+      subst (λ (n : ℕ). Ended g mine.store.layout start frugal first old taken was now (status.NotBuilt n)) (sym ends.0) (Ended-bad frugal ends.1)
+  Ended-reading status.ReadFault frugal before since ends = record {
+    lines = going.lines;
+    ran = lines-before;
+    took = λ told. inl (going.took told);
+    pages = λ told. tt;
+    counts = λ told. tt;
+    damage = tt;
+    whole = λ told. tt;
+  }
+  Ended-reading status.OutOfMemory frugal before since ends = record {
+    lines = going.lines;
+    ran = lines-before;
+    took = λ told. inl (going.took told);
+    pages = λ told. tt;
+    counts = λ told. tt;
+    damage = tt;
+    whole = λ told. tt;
+  }
+  Ended-reading status.Done frugal before since ends = absurd ends
+  Ended-reading status.WriteFault frugal before since ends = absurd ends
+  Ended-reading status.DiskFault frugal before since ends = absurd ends
+  Ended-reading (status.Refused why) frugal before since ends = absurd ends
+  Ended-reading status.Usage frugal before since ends = absurd ends
+  Ended-reading (status.Damaged key link want got) frugal before since ends = absurd ends
+
+  -- a step had no answer
+  pub Ended-step : (one : Status) (newer : D) (frugal : Bool) (before since : ℕ) → EndsStep one before since → ShowsDamage one going.world.store.objects
+      → (IsTrue g.tells → IsUndamaged one) → Ended g mine.store.layout start frugal first old taken was newer one
+  Ended-step status.DiskFault newer frugal before since ends shows undamaged = record {
+    lines = going.lines;
+    ran = lines-before;
+    took = λ told. inl (going.took told);
+    pages = λ told. tt;
+    counts = λ told. tt;
+    damage = tt;
+    whole = λ told. tt;
+  }
+  Ended-step status.OutOfMemory newer frugal before since ends shows undamaged = record {
+    lines = going.lines;
+    ran = lines-before;
+    took = λ told. inl (going.took told);
+    pages = λ told. tt;
+    counts = λ told. tt;
+    damage = tt;
+    whole = λ told. tt;
+  }
+  Ended-step (status.Damaged key link want got) newer frugal before since ends shows undamaged = record {
+    lines = going.lines;
+    ran = lines-before;
+    took = λ told. inl (going.took told);
+    pages = λ told. tt;
+    counts = λ told. tt;
+    damage = subst (λ (s : Store). ShowsDamage (status.Damaged key link want got) s.objects) going.store_is shows;
+    whole = undamaged;
+  }
+  Ended-step (status.NotBuilt line) newer frugal before since ends shows undamaged = absurd ends
+  Ended-step status.ReadFault newer frugal before since ends shows undamaged = absurd ends
+  Ended-step status.Done newer frugal before since ends shows undamaged = absurd ends
+  Ended-step status.WriteFault newer frugal before since ends shows undamaged = absurd ends
+  Ended-step (status.Refused why) newer frugal before since ends shows undamaged = absurd ends
+  Ended-step status.Usage newer frugal before since ends shows undamaged = absurd ends
+
+  -- the objects stand where the run is
+  pub stand-now : IsTrue g.tells → AllStand (g.story now).reads mine.store.layout going.world.store.objects
+  stand-now told = subst (λ (s : Store). AllStand (g.story now).reads mine.store.layout s.objects) (sym going.store_is) (going.pages told).objects
 
 -- the same of a status that is known
 pub EndsReading-ended : (one : Status) (why : LineFault) (number : ℕ) (left : Option (List ℕ)) (before now : ℕ) (frugal : Bool) → one ≡ reading_ending why
-    → ((cause : IoFault) → why ≡ fault.Source cause → HasCause cause before now frugal) → EndsReading one number left before now
+    → ((cause : IoFault) → why ≡ fault.Source cause → CameFrom cause before now frugal) → EndsReading one number left before now
 EndsReading-ended one why number left before now frugal is cause = subst (λ s. EndsReading s number left before now) (sym is) (EndsReading-fault why number left before now frugal cause)
 
-pub EndsStep-fault : (one : Status) (why : StepFault) (before now : ℕ) → one ≡ step_ending why → IsStepFault before now why → EndsStep one before now
-EndsStep-fault one step_fault.Failed before now is cause = subst (λ s. EndsStep s before now) (sym is) cause
-EndsStep-fault one step_fault.OutOfMemory before now is cause = subst (λ s. EndsStep s before now) (sym is) tt
-EndsStep-fault one (step_fault.Damaged key link want got) before now is cause = subst (λ s. EndsStep s before now) (sym is) cause
-
--- a step that fails without damage ends a run so
-pub IsUndamaged-fault : (one : Status) (why : StepFault) → one ≡ step_ending why → IsWhole why → IsUndamaged one
-IsUndamaged-fault one step_fault.Failed is whole = subst IsUndamaged (sym is) tt
-IsUndamaged-fault one step_fault.OutOfMemory is whole = subst IsUndamaged (sym is) tt
-IsUndamaged-fault one (step_fault.Damaged key link want got) is whole = absurd whole
-
--- a turn and a lead as steps
-pub IsDone-turn : (base image : Image) (world : model.World) (number : ℕ) (action : Action) (line : AnswerLine) (new : World) → number ≡ 0 → IsTurn base image world action line new → IsDone base image world (Session number action) (answer_text number line) new
-IsDone-turn base image world number action line new zero turned =
-    subst (λ n. IsDone base image world (Session n action) (answer_text n line) new) (sym zero) (record { text_is = ap (answer_text 0) turned.line_is; stands = turned.stands })
-
-pub IsDone-lead : (base image : Image) (world : model.World) (answer : Answer) (new : World) → IsLead base image world answer new → IsDone base image world Lead (text_of answer) new
-IsDone-lead base image world answer new led = record { text_is = led.text_is; stands = led.stands }
-
 -- a run that begins
-pub Going-first : (base : Image) (mine : World) (left taken : Option (List ℕ)) (script : List ℕ) → Stands base base mine model.new_world → left ≡ Some script → Going base base mine 1 left taken taken (play mine.store.layout script)
-Going-first base mine left taken script stands left_is = record {
-  world = model.new_world;
+pub Going-first : {D : Type 0} (g : Ghosts D) (mine : World) (first taken : Option (List ℕ)) (disk : D) → WorldStands mine (world_over empty_store)
+    → Going g empty_store mine 1 first first taken taken disk disk
+Going-first g mine first taken disk stands = record {
+  world = world_over empty_store;
   stands = stands;
-  text = [];
-  took = Appends-nil taken;
-  lines = inl refl;
-  script = script;
-  left_is = left_is;
-  plays_on = refl;
+  lines = [];
+  store_is = refl;
+  took = λ told. Appends-nil taken;
+  pages = λ told. record { objects = no-objects (g.story disk).reads mine.store.layout; others = wrote_none (IsOwnedPage mine.store.layout []) (g.story disk) };
+  counts = λ told. record { writes = omega arith; syncs = omega arith };
+  plays_on = λ script known. (script, known, refl);
 }
 
 -- a seventeenth line is none that is built
@@ -334,3 +422,38 @@ Closed-since one was frugal first before now old new later same closed = record 
   front = closed.front;
   whole = since_earlier first before now was frugal later same closed.whole;
 }
+
+-- a run that found no memory before its first line
+pub Ended-unbegun : {D : Type 0} (g : Ghosts D) (layout : Layout) (start : Store) (frugal : Bool) (script taken : Option (List ℕ)) (disk : D)
+    → Ended g layout start frugal script taken taken disk disk status.OutOfMemory
+Ended-unbegun g layout start frugal script taken disk = record {
+  lines = [];
+  ran = λ text known. ((play layout start text).lines, refl);
+  took = λ told. inl (Appends-nil taken);
+  pages = λ told. tt;
+  counts = λ told. tt;
+  damage = tt;
+  whole = λ told. tt;
+}
+
+-- what a source has left is what a reader without bytes ahead has before it
+pub prepend-none : (ahead : List ℕ) (left : Option (List ℕ)) → ahead ≡ [] → left ≡ prepend_known ahead left
+prepend-none ahead None none = refl
+prepend-none ahead (Some script) none = ap (λ front. Some (front ++ script)) (sym none)
+
+-- what the ends keep, where none was called, and from one call to the next
+module _ {S K D : Type 0} (source : source_trait.Ghosts S) (sink : sink_trait.Ghosts K) (disk : Ghosts D) where
+  pub KeepsEnds-none : (from : S) (to : K) (on : D) → KeepsEnds source sink disk from to on from to on
+  KeepsEnds-none from to on = record {
+    of_source = KeepsEnd-none source.faults source.frugal from;
+    of_sink = KeepsEnd-none sink.faults sink.frugal to;
+    of_disk = Keeps-none disk on;
+  }
+
+  pub KeepsEnds-then : (from from_mid from_new : S) (to to_mid to_new : K) (on on_mid on_new : D) → KeepsEnds source sink disk from to on from_mid to_mid on_mid
+      → KeepsEnds source sink disk from_mid to_mid on_mid from_new to_new on_new → KeepsEnds source sink disk from to on from_new to_new on_new
+  KeepsEnds-then from from_mid from_new to to_mid to_new on on_mid on_new one other = record {
+    of_source = KeepsEnd-then source.faults source.frugal from from_mid from_new one.of_source other.of_source;
+    of_sink = KeepsEnd-then sink.faults sink.frugal to to_mid to_new one.of_sink other.of_sink;
+    of_disk = Keeps-then disk on on_mid on_new one.of_disk other.of_disk;
+  }

@@ -8,10 +8,10 @@ use Rattle.store_model.specs.Places.{extent_count, extent_tiers, tail_tiers, tie
 use Rattle.store_model.specs.Space.{Block, extent_blocks}
 use Rattle.store_model.specs.State.{AreAligned, HasTail}
 use Rattle.blob_steps.specs.Fitting.{Fits}
-use Rattle.blob_steps.specs.Places.{IsTakeFault, Takes, Took}
+use Rattle.blob_steps.specs.Places.{IsTakeFault, Takes, TakesHeads}
 use Rattle.blob_steps.specs.declared.places.TakeFault.{TakeFault}
 use Rattle.blob_steps.specs.declared.places.TakeFault.TheVariants as take
-use Rattle.blob_steps.proofs.Takings.{Fails-front, IsTakeFault-then, Took-then, length-extent_blocks}
+use Rattle.blob_steps.proofs.Takings.{Fails-front, IsTakeFault-then, TakesHeads-then, length-extent_blocks}
 use Rattle.std.proofs.lemmas.List.{append-nil}
 
 -- whether a content of this size has a tail
@@ -36,23 +36,23 @@ tiers-are size extents tail count there =
     ∙ ap (λ (n : ℕ). extent_tiers n ++ tier_list (has_tail size)) (sym count)
     ∙ ap (λ (b : Bool). extent_tiers extents ++ tier_list b) (sym there)
 
-pub Took-place : (size extents : ℕ) (heads tail_heads : List ℕ) (tail : Bool) (old mid new : Parts) → extents ≡ extent_count size → tail ≡ has_tail size → mid.pages ≡ old.pages
-    → Took (extent_tiers extents) heads old mid → Took (tier_list tail) tail_heads mid new → Took (tiers_for size) (heads ++ tail_heads) old new
-Took-place size extents heads tail_heads tail old mid new count there pages one two =
-    subst (λ (tiers : List ℕ). Took tiers (heads ++ tail_heads) old new) (sym (tiers-are size extents tail count there))
-    (Took-then (extent_tiers extents) (tier_list tail) heads tail_heads old mid new pages one two)
+pub TakesHeads-place : (size extents : ℕ) (heads tail_heads : List ℕ) (tail : Bool) (old mid new : Parts) → extents ≡ extent_count size → tail ≡ has_tail size → mid.pages ≡ old.pages
+    → TakesHeads (extent_tiers extents) heads old mid → TakesHeads (tier_list tail) tail_heads mid new → TakesHeads (tiers_for size) (heads ++ tail_heads) old new
+TakesHeads-place size extents heads tail_heads tail old mid new count there pages one two =
+    subst (λ (tiers : List ℕ). TakesHeads tiers (heads ++ tail_heads) old new) (sym (tiers-are size extents tail count there))
+    (TakesHeads-then (extent_tiers extents) (tier_list tail) heads tail_heads old mid new pages one two)
 
-front-fails : (tiers more : List ℕ) (old new : Parts) (before after : List Block) (fault : TakeFault) → IsTakeFault tiers old new before after fault → IsTakeFault (tiers ++ more) old new before after fault
-front-fails tiers more old new before after (take.NoSpace tier) fails = (Fails-front tiers more tier old fails.0, fails.1)
+front-fails : (tiers more : List ℕ) (old new : Parts) (before after : List Block) (fault : TakeFault (Unit {0})) → IsTakeFault tiers old new before after fault → IsTakeFault (tiers ++ more) old new before after fault
+front-fails tiers more old new before after (take.NoSpace one tier) fails = (Fails-front tiers more tier old fails.0, fails.1)
 front-fails tiers more old new before after take.OutOfMemory fails = tt
 
-pub IsTakeFault-extents : (size extents : ℕ) (old new : Parts) (before after : List Block) (fault : TakeFault) → extents ≡ extent_count size → IsTakeFault (extent_tiers extents) old new before after fault
+pub IsTakeFault-extents : (size extents : ℕ) (old new : Parts) (before after : List Block) (fault : TakeFault (Unit {0})) → extents ≡ extent_count size → IsTakeFault (extent_tiers extents) old new before after fault
     → IsTakeFault (tiers_for size) old new before after fault
 IsTakeFault-extents size extents old new before after fault count fails =
     subst (λ (n : ℕ). IsTakeFault (extent_tiers n ++ tail_tiers size) old new before after fault) count (front-fails (extent_tiers extents) (tail_tiers size) old new before after fault fails)
 
-pub IsTakeFault-tail : (size extents : ℕ) (heads : List ℕ) (tail : Bool) (old mid new : Parts) (before between after : List Block) (fault : TakeFault) → extents ≡ extent_count size → tail ≡ has_tail size
-    → Took (extent_tiers extents) heads old mid → Takes (extent_blocks heads) old mid before between → IsTakeFault (tier_list tail) mid new between after fault
+pub IsTakeFault-tail : (size extents : ℕ) (heads : List ℕ) (tail : Bool) (old mid new : Parts) (before between after : List Block) (fault : TakeFault (Unit {0})) → extents ≡ extent_count size → tail ≡ has_tail size
+    → TakesHeads (extent_tiers extents) heads old mid → Takes (extent_blocks heads) old mid before between → IsTakeFault (tier_list tail) mid new between after fault
     → IsTakeFault (tiers_for size) old new before after fault
 IsTakeFault-tail size extents heads tail old mid new before between after fault count there took takes fails =
     let tiers : List ℕ = extent_tiers extents ++ tier_list tail in

@@ -7,22 +7,21 @@ use Rattle.extent_alloc.specs.Parts.{Parts}
 use Rattle.store_model.specs.Judgement.{place_then, placed_then, places_for}
 use Rattle.store_model.specs.Places.{extent_count, first_of, place_with, taken, tiers_for}
 use Rattle.store_model.specs.Space.{Block, blocks_of, extent_blocks, tail_blocks}
-use Rattle.store_model.specs.Store.{Place}
+use Rattle.store_model.specs.Store.{Placement}
 use Rattle.store_model.specs.Transaction.{Change, content_of}
 use Rattle.store_model.proofs.OrderLaws.{places_for-permutation}
 use Rattle.blob_steps.specs.Fitting.{Fits}
-use Rattle.blob_steps.specs.Places.{Fails, IsPlaceFault, IsTakeFault, Takes, Took, blocks_by, changes_of, heads_by, places_of, tail_list}
-use Rattle.blob_steps.specs.declared.places.PlaceFault.TheVariants as place_fault
+use Rattle.blob_steps.specs.Places.{Fails, IsPlaceFault, IsTakeFault, Takes, TakesHeads, blocks_by, changes_of, heads_by, places_of, tail_list}
 use Rattle.blob_steps.specs.declared.places.TakeFault.TheVariants as take_fault
 use Rattle.blob_steps.specs.declared.write.Write.{Write}
 use Rattle.blob_steps.proofs.Takings.{Takes-then, length-extent_blocks}
 
 -- these places before the others
-abbrev pub places_then : List Place → Result (List Place) (List ℕ × ℕ) → Result (List Place) (List ℕ × ℕ)
+abbrev pub places_then : List Placement → Result (List Placement) (List ℕ × ℕ) → Result (List Placement) (List ℕ × ℕ)
 places_then before (Ok places) = Ok (before ++ places)
 places_then before (Err none) = Err none
 
-places-both : (before : List Place) (place : Place) (rest : Result (List Place) (List ℕ × ℕ)) → places_then before (place_then place rest) ≡ places_then (before ++ place ∷ []) rest
+places-both : (before : List Placement) (place : Placement) (rest : Result (List Placement) (List ℕ × ℕ)) → places_then before (place_then place rest) ≡ places_then (before ++ place ∷ []) rest
 places-both before place (Ok places) = ap Ok (sym (append_assoc before (place ∷ []) places))
 places-both before place (Err none) = refl
 
@@ -41,24 +40,24 @@ first-tail None = refl
 first-tail (Some page) = refl
 
 -- a place is the one with its heads
-place_with-heads : (size : ℕ) (place : Place) → Fits size place → place_with size (heads_by place) ≡ place
+place_with-heads : (size : ℕ) (place : Placement) → Fits size place → place_with size (heads_by place) ≡ place
 place_with-heads size place fits =
     ap (λ (heads : List ℕ). record { heads = heads; tail = first_of (drop (extent_count size) (heads_by place)) }) (take-front place.heads (tail_list place.tail) (extent_count size) fits.count)
     ∙ ap (λ (heads : List ℕ). record { heads = place.heads; tail = first_of heads }) (drop-front place.heads (tail_list place.tail) (extent_count size) fits.count)
     ∙ ap (λ (tail : Option ℕ). record { heads = place.heads; tail = tail }) (first-tail place.tail)
 
-taken-alone : (tiers heads : List ℕ) (old new : Parts) → Took tiers heads old new → taken old.pages tiers old.owned ≡ Ok heads
+taken-alone : (tiers heads : List ℕ) (old new : Parts) → TakesHeads tiers heads old new → taken old.pages tiers old.owned ≡ Ok heads
 taken-alone tiers heads old new took =
     ap (λ (ts : List ℕ). taken old.pages ts old.owned) (sym (append-nil tiers)) ∙ took [] ∙ ap Ok (append-nil heads)
 
 -- the first change takes this place, and then the others theirs
-places_for-next : (key : List ℕ) (change : Change) (rest : List (List ℕ × Change)) (place : Place) (old new : Parts) → Fits (length (content_of change)) place
-    → Took (tiers_for (length (content_of change))) (heads_by place) old new → IsPermutation new.owned (blocks_of place ++ old.owned)
+places_for-next : (key : List ℕ) (change : Change) (rest : List (List ℕ × Change)) (place : Placement) (old new : Parts) → Fits (length (content_of change)) place
+    → TakesHeads (tiers_for (length (content_of change))) (heads_by place) old new → IsPermutation new.owned (blocks_of place ++ old.owned)
     → places_for old.pages ((key, change) ∷ rest) old.owned ≡ place_then place (places_for old.pages rest new.owned)
 places_for-next key change rest place old new fits took moved =
     let size : ℕ = length (content_of change) in
     ap (λ (r : Result (List ℕ) ℕ). placed_then key size r (λ p. places_for old.pages rest (blocks_of p ++ old.owned))) (taken-alone (tiers_for size) (heads_by place) old new took)
-    ∙ ap (λ (p : Place). place_then p (places_for old.pages rest (blocks_of p ++ old.owned))) (place_with-heads size place fits)
+    ∙ ap (λ (p : Placement). place_then p (places_for old.pages rest (blocks_of p ++ old.owned))) (place_with-heads size place fits)
     ∙ ap (place_then place) (sym (places_for-permutation old.pages rest new.owned (blocks_of place ++ old.owned) moved))
 
 taken-fails : (tiers : List ℕ) (tier : ℕ) (old : Parts) → Fails tiers tier old → taken old.pages tiers old.owned ≡ Err tier
@@ -79,7 +78,7 @@ pub record Requesting (all rest : List (List ℕ × Change)) (count left : ℕ) 
   pub number : length writes + left ≡ count
   pub few : length listed ≤ 128 * length writes
 
-none-then : (rest : Result (List Place) (List ℕ × ℕ)) → rest ≡ places_then [] rest
+none-then : (rest : Result (List Placement) (List ℕ × ℕ)) → rest ≡ places_then [] rest
 none-then (Ok places) = refl
 none-then (Err none) = refl
 
@@ -97,13 +96,13 @@ length-tail_blocks None = omega arith
 length-tail_blocks (Some page) = omega arith
 
 -- a place has at most 128 blocks
-pub length-blocks_of : (size : ℕ) (place : Place) → Fits size place → length (blocks_of place) ≤ 128
+pub length-blocks_of : (size : ℕ) (place : Placement) → Fits size place → length (blocks_of place) ≤ 128
 length-blocks_of size place fits =
     omega (arith, length-append (extent_blocks place.heads) (tail_blocks place.tail), length-extent_blocks place.heads, length-tail_blocks place.tail, fits.most)
 
 pub Requesting-next : (all seen rest : List (List ℕ × Change)) (count left less : ℕ) (writes : List Write) (write : Write) (old now new : Parts) (listed after : List Block) → Requesting all seen count left writes old now listed
     → seen ≡ (write.key, write.change) ∷ rest → left ≡ less + 1 → Fits (length (content_of write.change)) write.place
-    → Took (tiers_for (length (content_of write.change))) (heads_by write.place) now new → Takes (blocks_of write.place) now new listed after
+    → TakesHeads (tiers_for (length (content_of write.change))) (heads_by write.place) now new → Takes (blocks_of write.place) now new listed after
     → Requesting all rest count less (writes ++ write ∷ []) old new after
 Requesting-next all seen rest count left less writes write old now new listed after so_far is fewer fits took takes =
     let places : places_of (writes ++ write ∷ []) ≡ places_of writes ++ write.place ∷ [] = map-append (λ (w : Write). w.place) writes (write ∷ []) in
@@ -115,7 +114,7 @@ Requesting-next all seen rest count left less writes write old now new listed af
           ∙ ap (places_then (places_of writes)) (places_for-next write.key write.change rest write.place now new fits took takes.owned)
           ∙ ap (λ (n : ℕ). places_then (places_of writes) (place_then write.place (places_for n rest new.owned))) (sym takes.pages)
           ∙ places-both (places_of writes) write.place (places_for new.pages rest new.owned)
-          ∙ ap (λ (ps : List Place). places_then ps (places_for new.pages rest new.owned)) (sym places);
+          ∙ ap (λ (ps : List Placement). places_then ps (places_for new.pages rest new.owned)) (sym places);
       changes = ap (λ (cs : List (List ℕ × Change)). cs ++ rest) (map-append (λ (w : Write). (w.key, w.change)) writes (write ∷ []))
           ∙ append_assoc (changes_of writes) ((write.key, write.change) ∷ []) rest
           ∙ ap (λ (cs : List (List ℕ × Change)). changes_of writes ++ cs) (sym is)
@@ -135,8 +134,8 @@ Requesting-all all rest count left writes old now listed so_far none = (
 
 -- one of the changes finds no place
 pub Requesting-fails : (all seen rest : List (List ℕ × Change)) (count left : ℕ) (writes : List Write) (key : List ℕ) (change : Change) (tier : ℕ) (old now new : Parts) (listed after : List Block) → Requesting all seen count left writes old now listed
-    → seen ≡ (key, change) ∷ rest → IsTakeFault (tiers_for (length (content_of change))) now new listed after (take_fault.NoSpace tier)
-    → IsPlaceFault all old new after (place_fault.NoSpace key tier)
+    → seen ≡ (key, change) ∷ rest → IsTakeFault (tiers_for (length (content_of change))) now new listed after (take_fault.NoSpace tt tier)
+    → IsPlaceFault all old new after (take_fault.NoSpace key tier)
 Requesting-fails all seen rest count left writes key change tier old now new listed after so_far is fails = (
   so_far.found
       ∙ ap (λ (cs : List (List ℕ × Change)). places_then (places_of writes) (places_for now.pages cs now.owned)) is

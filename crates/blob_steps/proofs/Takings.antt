@@ -14,7 +14,7 @@ use Rattle.store_model.specs.Shape.{pages_of_extent, pages_of_tier, tier_of}
 use Rattle.store_model.specs.Space.{Block, IsFull, IsLeastFree, extent_blocks}
 use Rattle.store_model.specs.State.{AreAligned}
 use Rattle.store_model.proofs.OrderLaws.{taken-found, taken-full, taken-permutation}
-use Rattle.blob_steps.specs.Places.{Fails, IsTakeFault, Takes, Took, heads_then}
+use Rattle.blob_steps.specs.Places.{Fails, IsTakeFault, Takes, TakesHeads, heads_then}
 use Rattle.blob_steps.specs.declared.places.TakeFault.{TakeFault}
 use Rattle.blob_steps.specs.declared.places.TakeFault.TheVariants as take
 
@@ -23,9 +23,9 @@ head-heads head (Ok heads) = refl
 head-heads head (Err tier) = refl
 
 -- the least free place of a tier was taken
-pub Took-block : (tier head : ℕ) (old mid new : Parts) → mid.owned ≡ old.owned → mid.pages ≡ old.pages → IsLeastFree mid.owned tier mid.pages head → IsPermutation new.owned ((head, tier) ∷ mid.owned)
-    → Took (tier ∷ []) (head ∷ []) old new
-Took-block tier head old mid new same pages least moved = λ rest.
+pub TakesHeads-block : (tier head : ℕ) (old mid new : Parts) → mid.owned ≡ old.owned → mid.pages ≡ old.pages → IsLeastFree mid.owned tier mid.pages head → IsPermutation new.owned ((head, tier) ∷ mid.owned)
+    → TakesHeads (tier ∷ []) (head ∷ []) old new
+TakesHeads-block tier head old mid new same pages least moved = λ rest.
     ap (λ (o : Option ℕ). found_then tier o (λ h. taken old.pages rest ((h, tier) ∷ old.owned)))
     (taken-found old.owned tier old.pages head (subst (λ (n : ℕ). IsLeastFree old.owned tier n head) pages (subst (λ (bs : List Block). IsLeastFree bs tier mid.pages head) same least)))
     ∙ ap (head_then head) (sym (taken-permutation old.pages rest new.owned ((head, tier) ∷ old.owned) (subst (λ (bs : List Block). IsPermutation new.owned ((head, tier) ∷ bs)) same moved)))
@@ -51,8 +51,8 @@ heads-both one two (Ok heads) = ap Ok (sym (append_assoc one two heads))
 heads-both one two (Err tier) = refl
 
 -- some blocks, and then others
-pub Took-then : (tiers more heads others : List ℕ) (old mid new : Parts) → mid.pages ≡ old.pages → Took tiers heads old mid → Took more others mid new → Took (tiers ++ more) (heads ++ others) old new
-Took-then tiers more heads others old mid new pages one two = λ rest.
+pub TakesHeads-then : (tiers more heads others : List ℕ) (old mid new : Parts) → mid.pages ≡ old.pages → TakesHeads tiers heads old mid → TakesHeads more others mid new → TakesHeads (tiers ++ more) (heads ++ others) old new
+TakesHeads-then tiers more heads others old mid new pages one two = λ rest.
     let later : taken old.pages (more ++ rest) mid.owned ≡ heads_then others (taken old.pages rest new.owned) =
     subst (λ (n : ℕ). taken n (more ++ rest) mid.owned ≡ heads_then others (taken n rest new.owned)) pages (two rest) in
     ap (λ (ts : List ℕ). taken old.pages ts old.owned) (append_assoc tiers more rest)
@@ -61,7 +61,7 @@ Took-then tiers more heads others old mid new pages one two = λ rest.
     ∙ heads-both heads others (taken old.pages rest new.owned)
 
 -- some blocks, and then none for one of the others
-pub Fails-then : (tiers more heads : List ℕ) (tier : ℕ) (old mid : Parts) → mid.pages ≡ old.pages → Took tiers heads old mid → Fails more tier mid → Fails (tiers ++ more) tier old
+pub Fails-then : (tiers more heads : List ℕ) (tier : ℕ) (old mid : Parts) → mid.pages ≡ old.pages → TakesHeads tiers heads old mid → Fails more tier mid → Fails (tiers ++ more) tier old
 Fails-then tiers more heads tier old mid pages one two = λ rest.
     let later : taken old.pages (more ++ rest) mid.owned ≡ Err tier = subst (λ (n : ℕ). taken n (more ++ rest) mid.owned ≡ Err tier) pages (two rest) in
     ap (λ (ts : List ℕ). taken old.pages ts old.owned) (append_assoc tiers more rest)
@@ -91,17 +91,17 @@ Takes-then one two old mid new before between after first second = record {
 }
 
 -- no block at all
-pub Took-none : (old : Parts) → Took [] [] old old
-Took-none old = λ rest.
+pub TakesHeads-none : (old : Parts) → TakesHeads [] [] old old
+TakesHeads-none old = λ rest.
     elim (taken old.pages rest old.owned) as (λ (r : Result (List ℕ) ℕ). r ≡ heads_then [] r) [
       | Ok heads ↦ refl
       | Err tier ↦ refl
     ]
 
 -- what failed behind some blocks, and before other tiers
-pub IsTakeFault-then : (front tiers rest heads : List ℕ) (more : List Block) (old mid new : Parts) (before between after : List Block) (fault : TakeFault)
-    → Took front heads old mid → Takes more old mid before between → IsTakeFault tiers mid new between after fault → IsTakeFault ((front ++ tiers) ++ rest) old new before after fault
-IsTakeFault-then front tiers rest heads more old mid new before between after (take.NoSpace tier) took takes fails = (
+pub IsTakeFault-then : (front tiers rest heads : List ℕ) (more : List Block) (old mid new : Parts) (before between after : List Block) (fault : TakeFault (Unit {0}))
+    → TakesHeads front heads old mid → Takes more old mid before between → IsTakeFault tiers mid new between after fault → IsTakeFault ((front ++ tiers) ++ rest) old new before after fault
+IsTakeFault-then front tiers rest heads more old mid new before between after (take.NoSpace one tier) took takes fails = (
   Fails-front (front ++ tiers) rest tier old (Fails-then front tiers heads tier old mid takes.pages took fails.0),
   (more ++ fails.1.0, Takes-then more fails.1.0 old mid new before between after takes fails.1.1),
 )
@@ -153,14 +153,14 @@ length-extent_blocks heads = blocks-length 0 heads
 
 -- Places for the first extents were taken, each listed.
 pub record TakingExtents (i : ℕ) (heads : List ℕ) (old now : Parts) (before listed : List Block) : Type 0 where
-  pub took : Took (extent_tiers i) heads old now
+  pub took : TakesHeads (extent_tiers i) heads old now
   pub takes : Takes (extent_blocks heads) old now before listed
   pub count : length heads ≡ i
   pub aligned : AreAligned heads
 
 pub TakingExtents-none : (old : Parts) (before : List Block) → length before ≤ old.spare → TakingExtents 0 [] old old before before
 TakingExtents-none old before spare = record {
-  took = Took-none old;
+  took = TakesHeads-none old;
   takes = Takes-none old old old before refl refl (omega arith) spare refl;
   count = refl;
   aligned = λ i less. absurd (omega (arith, less));
@@ -177,17 +177,17 @@ aligned-next heads head i count aligned here = λ k less. elim (cases_lt k i) [
 ]
 
 pub TakingExtents-next : (i head : ℕ) (heads : List ℕ) (old now new : Parts) (before listed after : List Block) → TakingExtents i heads old now before listed
-    → Took (tier_of i ∷ []) (head ∷ []) now new → Takes ((head, tier_of i) ∷ []) now new listed after → head % pages_of_tier (tier_of i) ≡ 0
+    → TakesHeads (tier_of i ∷ []) (head ∷ []) now new → Takes ((head, tier_of i) ∷ []) now new listed after → head % pages_of_tier (tier_of i) ≡ 0
     → TakingExtents (i + 1) (heads ++ head ∷ []) old new before after
 TakingExtents-next i head heads old now new before listed after so_far took takes aligned = record {
-  took = subst (λ (tiers : List ℕ). Took tiers (heads ++ head ∷ []) old new) (sym (extent_tiers-next i)) (Took-then (extent_tiers i) (tier_of i ∷ []) heads (head ∷ []) old now new so_far.takes.pages so_far.took took);
+  took = subst (λ (tiers : List ℕ). TakesHeads tiers (heads ++ head ∷ []) old new) (sym (extent_tiers-next i)) (TakesHeads-then (extent_tiers i) (tier_of i ∷ []) heads (head ∷ []) old now new so_far.takes.pages so_far.took took);
   takes = subst (λ (more : List Block). Takes more old new before after) (sym (extent_blocks-next heads head i so_far.count)) (Takes-then (extent_blocks heads) ((head, tier_of i) ∷ []) old now new before listed after so_far.takes takes);
   count = omega (arith, length-append heads (head ∷ []), so_far.count);
   aligned = aligned-next heads head i so_far.count so_far.aligned aligned;
 }
 
 -- one of the extents found no place
-pub TakingExtents-fails : (i n : ℕ) (heads : List ℕ) (old now new : Parts) (before listed after : List Block) (fault : TakeFault) → i < n → TakingExtents i heads old now before listed
+pub TakingExtents-fails : (i n : ℕ) (heads : List ℕ) (old now new : Parts) (before listed after : List Block) (fault : TakeFault (Unit {0})) → i < n → TakingExtents i heads old now before listed
     → IsTakeFault (tier_of i ∷ []) now new listed after fault → IsTakeFault (extent_tiers n) old new before after fault
 TakingExtents-fails i n heads old now new before listed after fault less so_far fails =
     let split = extent_tiers-split (i + 1) n (omega (arith, less)) in

@@ -1,29 +1,36 @@
 -- Turns of the one session, over the program's world.
-use Rattle.std.proofs.Common.{◌≡◌, ℕ, ◌+◌, ◌≤◌, Bool, true, false, cond, List, [], ◌++◌, length, nat_lt, Option, Some, None, refl, sym, ◌∙◌, ap, subst, arith, option_map}
-use Rattle.std.specs.Prelude.{MatchResult, Result, Ok, Err}
+use Rattle.std.proofs.Common.{◌≡◌, ℕ, ◌+◌, ◌≤◌, Bool, true, false, cond, List, [], length, nat_lt, Option, Some, None, refl, sym, ◌∙◌, ap, subst, arith, option_map}
+use Rattle.std.specs.Prelude.{IsTrue, IfOk, OnOk, Result, Ok, Err}
 use Rattle.std.specs.FinMap.{FinMap, contains_key, empty, entries, get, get-empty, len, len-empty, len-entries, len-insert}
 use Rattle.std.specs.List.{sum_by}
 use Rattle.std.proofs.lemmas.List.{nil_from_length}
 use Rattle.store_model.specs.State.{State}
 use Rattle.store_model.specs.Shape.{greatest_size}
 use Rattle.store_model.specs.Key.{key_order}
-use Rattle.store_model.specs.Disk.{Image, SameOff}
+use Rattle.disk_model.specs.Disks.{OnlyReads}
+use Rattle.disk_model.specs.declared.disk.Disk.{Ghosts}
+use Rattle.disk_model.proofs.DiskLaws.{OnlyReads-none}
+use Rattle.store_model.specs.Cost.{Reads}
 use Rattle.store_model.specs.Judgement.{object_bytes, stored_bytes}
-use Rattle.store_model.specs.Layout.{Layout, data_page}
-use Rattle.store_model.specs.Space.{Block, IsOwnedPage}
-use Rattle.store_model.proofs.PlaceLaws.{owners-append}
-use Rattle.store_model.specs.Store.{Store, Object, number_at}
+use Rattle.store_model.specs.Layout.{Layout}
+use Rattle.store_model.specs.Standing.{AllStand, BothStand, SameObjects}
+use Rattle.store_model.specs.Store.{Store, Object, empty_store, number_at}
 use Rattle.store_model.specs.Transaction.{Transaction, is_touched}
 use Rattle.store_model.specs.Transaction as tr
 use Rattle.store_model.specs.Turn.{Session, Free, Open, Waiting, Action, Begin, Get, Stat, Put, Commit, Turned, turn, look_turn, shown, measured, with_read, is_one_too_many, is_stale}
 use Rattle.store_model.specs.Answer.{AnswerLine, answer_text, idle_text}
-use Rattle.store_model.specs.Group.{Led, World, judge_in, lead, lead_queue, lead_request, new_world, taken_by, transaction_of}
-use Rattle.store_model.specs.Play.{queue_after}
-use Rattle.blob_steps.specs.Answers.{text_of}
+use Rattle.store_model.specs.Group.{Outcome, World, lead, lead_queue, lead_request, transaction_of, world_over}
+use Rattle.store_model.specs.Play.{queue_after, step_play}
+use Rattle.store_model.specs.Script.{Session as ModelSession}
+use Rattle.blob_steps.specs.Answers.{model_line, text_of}
+use Rattle.blob_steps.specs.declared.answer.AnswerLine.{AnswerLine as MineLine}
+use Rattle.blob_steps.specs.declared.fault.StepFault.{StepFault}
 use Rattle.blob_steps.specs.Sessions.{change_count, model_session}
-use Rattle.blob_steps.specs.Steps.{IsLead, IsTurn, Stands, queue_of}
-use Rattle.blob_steps.specs.Stores.{BothStand, Replied, SameObjects, StoreStands}
+use Rattle.blob_steps.specs.Steps.{CameTo, WorldStands, queue_of}
+use Rattle.blob_steps.specs.Stores.{Replied, StoreStands}
+use Rattle.blob_steps.proofs.Doing.{Did-none, Did-reads}
 use Rattle.blob_steps.specs.declared.answer.Answer.{Answer}
+use Rattle.blob_steps.specs.declared.session.Session.{Session as MineSession}
 use Rattle.blob_steps.specs.declared.session.Session.TheVariants as session
 use Rattle.blob_steps.specs.declared.store.Store.{Store as MineStore}
 use Rattle.blob_steps.specs.declared.world.World.{World as Mine}
@@ -94,41 +101,64 @@ queue-turn store (Waiting t) (Stat key) = refl
 queue-turn store (Waiting t) (Put key content) = refl
 queue-turn store (Waiting t) Commit = refl
 
--- the world after a turn of the one session
-pub Stands-turn : (base image : Image) (mine new : Mine) (after : Session) (world : World) (action : Action) (line : AnswerLine)
-    → Stands base image mine world → new.store ≡ mine.store → model_session new.session ≡ after → turn world.store (model_session mine.session) action ≡ record { line = line; session = after }
-    → IsTurn base image world action line new
-Stands-turn base image mine new after world action line is same session e =
-    let turned : turn world.store (world.sessions 0) action ≡ record { line = line; session = after } = ap (λ s. turn world.store s action) (sym is.session_is) ∙ e in
+-- the number of what stands for an object
+number-both : (stored : Option State) (object : Option Object) → BothStand stored object → option_map (λ o. o.number) object ≡ option_map (λ s. s.born) stored
+number-both None None both = refl
+number-both (Some stored) (Some object) both = ap Some (sym both.number)
+number-both None (Some object) both = absurd both
+number-both (Some stored) None both = absurd both
+
+-- the number of a key
+pub number_at-stored : (stored : FinMap key_order State) (store : Store) (key : List ℕ) → SameObjects stored store.objects → number_at store key ≡ option_map (λ s. s.born) (get stored key)
+number_at-stored stored store key same = number-both (get stored key) (get store.objects key) (same key)
+
+-- the world after a turn of the one session, during which the disk was read at most
+pub CameTo-turn : {D : Type 0} (g : Ghosts D) (old now : D) (mine new : Mine) (after : Session) (world : World) (action : Action) (line : AnswerLine)
+    → WorldStands mine world → new.store ≡ mine.store → model_session new.session ≡ after
+    → after ≡ (turn world.store (model_session mine.session) action).session
+    → (IsTrue g.tells → AllStand (g.story old).reads new.store.layout world.store.objects → line ≡ (turn world.store (model_session mine.session) action).line)
+    → OnlyReads g old now → (IsTrue g.tells → Reads (g.calls old) (g.calls now))
+    → CameTo g world (step_play new.store.layout world (ModelSession 0 action)) (answer_text 0 line) new old now
+CameTo-turn g old now mine new after world action line is same session after_is line_is only reads =
+    let turned : turn world.store (world.sessions 0) action ≡ turn world.store (model_session mine.session) action =
+    ap (λ s. turn world.store s action) (sym is.session_is) in
+    let there : model_session new.session ≡ (turn world.store (world.sessions 0) action).session =
+    session ∙ after_is ∙ ap (λ (t : Turned). t.session) (sym turned) in
     record {
-      line_is = sym (ap (λ (t : Turned). t.line) turned);
       stands = record {
-        store = subst (λ s. StoreStands image s world.store) (sym same) is.store;
-        others = subst (λ s. SameOff (IsOwnedPage s.layout world.taken) base image) (sym same) is.others;
-        session_is = session ∙ sym (ap (λ (t : Turned). t.session) turned);
+        store = subst (λ s. StoreStands s world.store) (sym same) is.store;
+        session_is = there;
         queue_is =
             ap (λ queue. queue_after queue 0 action (world.sessions 0)) is.queue_is
             ∙ ap (λ s. queue_after (queue_of (model_session mine.session)) 0 action s) (sym is.session_is)
             ∙ queue-turn world.store (model_session mine.session) action
-            ∙ ap (λ (t : Turned). queue_of t.session) e
+            ∙ ap queue_of (sym after_is)
             ∙ ap queue_of (sym session);
       };
+      did = Did-reads g new.store.layout world.store.objects old now only reads;
+      text_is = λ told stand. ap (answer_text 0) (line_is told stand ∙ ap (λ (t : Turned). t.line) (sym turned));
     }
 
--- the number of what stands for an object
-number-both : (image : Image) (first : ℕ) (stored : Option State) (object : Option Object) → BothStand image first stored object → option_map (λ o. o.number) object ≡ option_map (λ s. s.born) stored
-number-both image first None None both = refl
-number-both image first (Some stored) (Some object) both = ap Some (sym both.number)
-number-both image first None (Some object) both = absurd both
-number-both image first (Some stored) None both = absurd both
+-- a turn that doesn't look at the disk
+pub CameTo-known : {D : Type 0} (g : Ghosts D) (disk : D) (mine new : Mine) (after : Session) (world : World) (action : Action) (line : AnswerLine)
+    → WorldStands mine world → new.store ≡ mine.store → model_session new.session ≡ after
+    → turn world.store (model_session mine.session) action ≡ record { line = line; session = after }
+    → CameTo g world (step_play new.store.layout world (ModelSession 0 action)) (answer_text 0 line) new disk disk
+CameTo-known g disk mine new after world action line is same session e =
+    CameTo-turn g disk disk mine new after world action line is same session (sym (ap (λ (t : Turned). t.session) e))
+    (λ told stand. sym (ap (λ (t : Turned). t.line) e)) (OnlyReads-none g disk) (λ told. record { writes = refl; syncs = refl })
 
--- the number of a key
-pub number_at-stored : (image : Image) (first : ℕ) (stored : FinMap key_order State) (store : Store) (key : List ℕ) → SameObjects image first stored store.objects → number_at store key ≡ option_map (λ s. s.born) (get stored key)
-number_at-stored image first stored store key same = number-both image first (get stored key) (get store.objects key) (same key)
-
--- over pages that read the same
-pub Stands-same : (base old new : Image) (mine : Mine) (world : World) → new ≡ old → Stands base old mine world → Stands base new mine world
-Stands-same base old new mine world same is = subst (λ image. Stands base image mine world) (sym same) is
+-- a turn that shows what the disk has
+pub CameTo-looked : {D : Type 0} (g : Ghosts D) (old now : D) (mine new : Mine) (after : Session) (world : World) (action : Action) (line : AnswerLine)
+    (result : Result MineLine StepFault) → WorldStands mine world → new.store ≡ mine.store → model_session new.session ≡ after
+    → turn world.store (model_session mine.session) action ≡ record { line = line; session = after }
+    → (IsTrue g.tells → AllStand (g.story old).reads new.store.layout world.store.objects → IfOk result (λ shown. model_line shown ≡ line))
+    → OnlyReads g old now → (IsTrue g.tells → OnOk result (Reads (g.calls old) (g.calls now)))
+    → IfOk result (λ shown. CameTo g world (step_play new.store.layout world (ModelSession 0 action)) (answer_text 0 (model_line shown)) new old now)
+CameTo-looked g old now mine new after world action line (Ok shown) is same session e shows only reads =
+    CameTo-turn g old now mine new after world action (model_line shown) is same session (sym (ap (λ (t : Turned). t.session) e))
+    (λ told stand. shows told stand ∙ sym (ap (λ (t : Turned). t.line) e)) only reads
+CameTo-looked g old now mine new after world action line (Err why) is same session e shows only reads = tt
 
 -- the lead of the one request
 lead-waiting : (layout : Layout) (world : World) (session : Session) (transaction : Transaction) → session ≡ Waiting transaction → session ≡ world.sessions 0 → world.queue ≡ queue_of session
@@ -136,64 +166,52 @@ lead-waiting : (layout : Layout) (world : World) (session : Session) (transactio
 lead-waiting layout world session transaction waits is queue =
     ap (lead_queue layout world) (queue ∙ ap queue_of waits) ∙ ap (λ s. lead_request layout world 0 (transaction_of s) []) (sym is ∙ waits)
 
--- a page of some blocks, with others behind them or in front
-page-front : (layout : Layout) (blocks more : List Block) (p : ℕ) → IsOwnedPage layout blocks p → IsOwnedPage layout (blocks ++ more) p
-page-front layout blocks more p page = record { at = page.at; is = page.is; within = page.within; owned = omega (arith, page.owned, owners-append blocks more page.at) }
-
-page-behind : (layout : Layout) (more blocks : List Block) (p : ℕ) → IsOwnedPage layout blocks p → IsOwnedPage layout (more ++ blocks) p
-page-behind layout more blocks p page = record { at = page.at; is = page.is; within = page.within; owned = omega (arith, page.owned, owners-append more blocks page.at) }
-
--- the world after the lead of the one request
-pub IsLead-waiting : (base old image : Image) (mine new : Mine) (world : World) (transaction : Transaction) (line : AnswerLine) (answer : Answer)
-    → Stands base old mine world → model_session mine.session ≡ Waiting transaction → model_session new.session ≡ Free → text_of answer ≡ answer_text 0 line
-    → Replied old image new.store world.store transaction line → new.store.layout ≡ mine.store.layout
-    → IsLead base image world answer new
-IsLead-waiting base old image mine new world transaction line answer is waits free text replied same =
-    let led : lead new.store.layout world ≡ lead_request new.store.layout world 0 transaction [] = lead-waiting new.store.layout world (model_session mine.session) transaction waits is.session_is is.queue_is in
+-- the world after it
+pub CameTo-waiting : {D : Type 0} (g : Ghosts D) (old now : D) (mine new : Mine) (world : World) (transaction : Transaction) (line : AnswerLine) (answer : Answer)
+    → WorldStands mine world → model_session mine.session ≡ Waiting transaction → model_session new.session ≡ Free → text_of answer ≡ answer_text 0 line
+    → Replied g old now new.store world.store transaction line
+    → CameTo g world (lead new.store.layout world) (text_of answer) new old now
+CameTo-waiting g old now mine new world transaction line answer is waits free text replied =
     let layout : Layout = new.store.layout in
-    let taken : List Block = taken_by (judge_in layout world.store transaction) in
-    let before : SameOff (IsOwnedPage layout world.taken) base old = subst (λ l. SameOff (IsOwnedPage l world.taken) base old) (sym same) is.others in
-    let done : Stands base image new (lead_request new.store.layout world 0 transaction []).world = record {
-      store = replied.stands;
-      others = λ page outside.
-          replied.others page (λ here. outside (page-front layout taken world.taken page here))
-          ∙ before page (λ here. outside (page-behind layout taken world.taken page here));
-      session_is = free;
-      queue_is = ap queue_of (sym free);
+    let led : lead layout world ≡ lead_request layout world 0 transaction [] = lead-waiting layout world (model_session mine.session) transaction waits is.session_is is.queue_is in
+    let done : CameTo g world (lead_request layout world 0 transaction []) (text_of answer) new old now = record {
+      stands = record { store = replied.stands; session_is = free; queue_is = ap queue_of (sym free) };
+      did = replied.did;
+      text_is = λ told stand. text ∙ ap (answer_text 0) replied.line_is;
     } in
-    record {
-      text_is = text ∙ ap (answer_text 0) replied.line_is ∙ ap (λ (l : Led). l.text) (sym led);
-      stands = subst (λ (l : Led). Stands base image new l.world) (sym led) done;
-    }
+    subst (λ (outcome : Outcome). CameTo g world outcome (text_of answer) new old now) (sym led) done
+
+-- a session that doesn't wait is in no queue
+pub nobody_waits : (one : MineSession) → ((transaction : Transaction) → one ≡ session.Waiting transaction → ⊥) → queue_of (model_session one) ≡ []
+nobody_waits session.Free not = refl
+nobody_waits (session.Open transaction) not = refl
+nobody_waits (session.Waiting transaction) not = absurd (not transaction refl)
 
 -- the world after a lead that found nobody waiting
-pub IsLead-idle : (base image : Image) (mine new : Mine) (world : World) (answer : Answer) → Stands base image mine world → queue_of (model_session mine.session) ≡ [] → text_of answer ≡ idle_text → new.store ≡ mine.store
-    → model_session new.session ≡ model_session mine.session → IsLead base image world answer new
-IsLead-idle base image mine new world answer is none text same session =
-    let led : lead new.store.layout world ≡ record { text = idle_text; world = world } = ap (lead_queue new.store.layout world) (is.queue_is ∙ none) in
-    let done : Stands base image new world = record {
-      store = subst (λ s. StoreStands image s world.store) (sym same) is.store;
-      others = subst (λ s. SameOff (IsOwnedPage s.layout world.taken) base image) (sym same) is.others;
-      session_is = session ∙ is.session_is;
-      queue_is = is.queue_is ∙ ap queue_of (sym session);
+pub CameTo-idle : {D : Type 0} (g : Ghosts D) (disk : D) (mine new : Mine) (world : World) (answer : Answer) → WorldStands mine world → queue_of (model_session mine.session) ≡ [] → text_of answer ≡ idle_text
+    → new.store ≡ mine.store → model_session new.session ≡ model_session mine.session
+    → CameTo g world (lead new.store.layout world) (text_of answer) new disk disk
+CameTo-idle g disk mine new world answer is none text same session =
+    let idle : Outcome = record { text = idle_text; commits = []; world = world } in
+    let led : lead new.store.layout world ≡ idle = ap (lead_queue new.store.layout world) (is.queue_is ∙ none) in
+    let done : CameTo g world idle (text_of answer) new disk disk = record {
+      stands = record {
+        store = subst (λ s. StoreStands s world.store) (sym same) is.store;
+        session_is = session ∙ is.session_is;
+        queue_is = is.queue_is ∙ ap queue_of (sym session);
+      };
+      did = Did-none g new.store.layout world.store.objects disk;
+      text_is = λ told stand. text;
     } in
-    record {
-      text_is = text ∙ ap (λ (l : Led). l.text) (sym led);
-      stands = subst (λ (l : Led). Stands base image new l.world) (sym led) done;
-    }
-
--- a result with the same refusals, and weaker where it is a value
-pub MatchResult-weaker : {T E : Type 0} (result : Result T E) (P Q : T → Type 0) (R : E → Type 0) → ((x : T) → P x → Q x) → MatchResult result P R → MatchResult result Q R
-MatchResult-weaker (Ok x) P Q R weaker is = weaker x is
-MatchResult-weaker (Err e) P Q R weaker is = is
-
-no_objects : (image : Image) (first : ℕ) (state : Option State) (object : Option Object) → state ≡ None → object ≡ None → BothStand image first state object
-no_objects image first state object none empty = subst (λ (s : Option State). BothStand image first s object) (sym none) (subst (λ (o : Option Object). BothStand image first None o) (sym empty) tt)
+    subst (λ (outcome : Outcome). CameTo g world outcome (text_of answer) new disk disk) (sym led) done
 
 -- no state stands for no object
-pub SameObjects-empty : (image : Image) (first : ℕ) (states : FinMap key_order State) → states ≡ empty → SameObjects image first states empty
-SameObjects-empty image first states none = λ key.
-    no_objects image first (get states key) (get {X = Object} empty key) (ap (λ (m : FinMap key_order State). get m key) none ∙ get-empty {X = State} key_order key) (get-empty {X = Object} key_order key)
+no_objects : (state : Option State) (object : Option Object) → state ≡ None → object ≡ None → BothStand state object
+no_objects state object none empty = subst (λ (s : Option State). BothStand s object) (sym none) (subst (λ (o : Option Object). BothStand None o) (sym empty) tt)
+
+pub SameObjects-empty : (states : FinMap key_order State) → states ≡ empty → SameObjects states empty
+SameObjects-empty states none = λ key.
+    no_objects (get states key) (get {X = Object} empty key) (ap (λ (m : FinMap key_order State). get m key) none ∙ get-empty {X = State} key_order key) (get-empty {X = Object} key_order key)
 
 no_entries : entries {X = Object} (empty {R = key_order}) ≡ []
 no_entries = nil_from_length _ (sym (len-entries {X = Object} (empty {R = key_order})) ∙ len-empty key_order Object)
@@ -203,14 +221,9 @@ sum-none : stored_bytes empty ≡ 0
 sum-none = ap (λ (es : List (List ℕ × Object)). sum_by (λ e. object_bytes e.0 e.1.place) es) no_entries
 
 -- the world of an empty store
-pub Stands-new : (base : Image) (store : MineStore) → store.relation.states ≡ empty → store.last ≡ 0 → Stands base base (record { store = store; session = session.Free }) new_world
-Stands-new base store none last = record {
-  store = record {
-    objects = SameObjects-empty base (data_page store.layout) store.relation.states none;
-    last = last;
-    room = omega (arith, sum-none);
-  };
-  others = λ page outside. refl;
+pub WorldStands-new : (store : MineStore) → store.relation.states ≡ empty → store.last ≡ 0 → WorldStands (record { store = store; session = session.Free }) (world_over empty_store)
+WorldStands-new store none last = record {
+  store = record { objects = SameObjects-empty store.relation.states none; last = last; room = omega (arith, sum-none) };
   session_is = refl;
   queue_is = refl;
 }

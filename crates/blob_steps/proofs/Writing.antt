@@ -1,20 +1,28 @@
 -- The writes of a request, one by one.
 use Rattle.std.proofs.Common.{◌≡◌, ℕ, zero, suc, ◌+◌, ◌*◌, ◌<◌, ◌≤◌, Bool, IsTrue, List, [], ◌∷◌, ◌++◌, length, drop, get_or, refl, sym, ◌∙◌, ap, subst, arith, append_assoc, add-one, drop-cons}
-use Rattle.std.proofs.lemmas.List.{drop_all}
+use Rattle.std.proofs.Common.{take}
+use Rattle.std.specs.List.{sum_by}
+use Rattle.std.proofs.lemmas.List.{drop_all, take_all}
+use Rattle.std.proofs.lemmas.List.Sums.{sum_by_more}
 use Rattle.std.proofs.lemmas.List.Elements.{Contains-append_left}
 use Rattle.std.proofs.lemmas.List.Sorted.{Contains-permutation, IsPermutation-append_comm, IsPermutation-append_left, IsPermutation-append_right, IsPermutation-sym, IsPermutation-trans}
 use Rattle.std.specs.List.Sorted.{IsPermutation}
 use Rattle.std.specs.FinMap.{FinMap, get, insert}
-use Rattle.store_model.specs.Disk.{Image, SameOff}
+use Rattle.store_model.specs.Disk.{Calls, Image, Took, with_sync}
 use Rattle.store_model.specs.Key.{key_order}
-use Rattle.store_model.specs.Layout.{Layout, data_page, data_pages}
+use Rattle.store_model.specs.Layout.{Layout, data_pages}
+use Rattle.store_model.specs.Standing.{AllStand, SameObjects}
+use Rattle.store_model.specs.Tuple.{greatest_tuple}
 use Rattle.store_model.specs.Space.{Apart, AreBlocks, Block, IsOwnedPage, blocks_of, owners}
 use Rattle.store_model.specs.State.{State}
 use Rattle.store_model.specs.Store.{Object}
 use Rattle.store_model.proofs.PlaceLaws.{owners-append, owners-permutation}
 use Rattle.relation.specs.Parts.{encoded_by, owned_by}
 use Rattle.blob_steps.specs.Places.{blocks_by, places_of}
-use Rattle.blob_steps.specs.Stores.{SameObjects, object_of, objects_with, old_blocks}
+use Rattle.blob_steps.specs.Stores.{object_of, objects_with, old_blocks, write_pages}
+use Rattle.disk_model.specs.Disks.{OnlyWrites}
+use Rattle.disk_model.specs.declared.disk.Disk.{Ghosts}
+use Rattle.disk_model.proofs.DiskLaws.{OnlyWrites-more}
 use Rattle.blob_steps.specs.declared.store.Store.{Store}
 use Rattle.blob_steps.specs.declared.write.Write.{Write}
 
@@ -54,10 +62,10 @@ moved-on place rest replaced old now later moves =
 pub record Writing (tells : Bool) (layout : Layout) (number : ℕ) (old new : Image) (before after : FinMap key_order State)
     (space replaced : List Block) (all rest : List Write) : Type 0 where
   pub owned : IsPermutation space (blocks_by (places_of rest) ++ (replaced ++ owned_by after))
-  pub objects : IsTrue tells → (objects : FinMap key_order Object) → SameObjects old (data_page layout) before objects
+  pub objects : (objects : FinMap key_order Object) → SameObjects before objects
       → (now : FinMap key_order Object)
-      × (SameObjects new (data_page layout) after now × (objects_with number now rest ≡ objects_with number objects all))
-  pub others : IsTrue tells → SameOff (IsOwnedPage layout (blocks_by (places_of all))) old new
+      × (SameObjects after now × (objects_with number now rest ≡ objects_with number objects all)
+      × (IsTrue tells → AllStand old layout objects → AllStand new layout now))
 
 -- none is done
 pub Writing-none : (tells : Bool) (layout : Layout) (number : ℕ) (old : Image) (before after : FinMap key_order State)
@@ -67,15 +75,14 @@ Writing-none tells layout number old before after space replaced all moves none 
   owned = subst (λ (l : List Block). IsPermutation space (blocks_by (places_of all) ++ (l ++ owned_by after))) (sym none)
       (subst (λ (m : FinMap key_order State). IsPermutation space (blocks_by (places_of all) ++ owned_by m))
       (sym same) moves);
-  objects = λ _ objects stand. (
+  objects = λ objects stand. (
     objects,
     (
-      subst (λ (m : FinMap key_order State). SameObjects old (data_page layout) m objects)
-          (sym same) stand,
+      subst (λ (m : FinMap key_order State). SameObjects m objects) (sym same) stand,
       refl,
+      λ told all. all,
     ),
   );
-  others = λ _ p off. refl;
 }
 
 -- a page of the next write is one of all writes
@@ -110,12 +117,11 @@ pub Writing-next : (tells : Bool) (layout now_layout : Layout) (number : ℕ) (o
     → Writing tells layout number old new before after space replaced all left → left ≡ write ∷ rest → now_layout ≡ layout
     → more ≡ replaced ++ old_blocks (get after write.key)
     → IsPermutation (old_blocks (get after write.key) ++ owned_by later) (blocks_of write.place ++ owned_by after)
-    → (IsTrue tells → (objects : FinMap key_order Object) → SameObjects new (data_page now_layout) after objects
-    → SameObjects newer (data_page now_layout) later (insert objects write.key (object_of number write)))
-    → (IsTrue tells → SameOff (IsOwnedPage now_layout (blocks_of write.place)) new newer)
-    → ((at : ℕ) → owners (blocks_by (places_of left)) at ≤ owners (blocks_by (places_of all)) at)
+    → ((objects : FinMap key_order Object) → SameObjects after objects → SameObjects later (insert objects write.key (object_of number write)))
+    → (IsTrue tells → (objects : FinMap key_order Object) → SameObjects after objects → AllStand new now_layout objects
+    → AllStand newer now_layout (insert objects write.key (object_of number write)))
     → Writing tells layout number old newer before later space more all rest
-Writing-next tells layout now_layout number old new newer before after later space replaced more all left rest write so_far left_is layout_is more_is moves set off among = record {
+Writing-next tells layout now_layout number old new newer before after later space replaced more all left rest write so_far left_is layout_is more_is moves set stand = record {
   owned =
       subst (λ (l : List Block). IsPermutation space (blocks_by (places_of rest) ++ (l ++ owned_by later))) (sym more_is)
       (IsPermutation-trans space ((blocks_of write.place ++ blocks_by (places_of rest)) ++ (replaced ++ owned_by after))
@@ -125,21 +131,52 @@ Writing-next tells layout now_layout number old new newer before after later spa
       (moved-on (blocks_of write.place) (blocks_by (places_of rest)) replaced (old_blocks (get after write.key))
       (owned_by after)
       (owned_by later) moves));
-  objects = λ told objects stand.
-      (let now = so_far.objects told objects stand in (
+  objects = λ objects before_is.
+      (let now = so_far.objects objects before_is in (
         insert now.0 write.key (object_of number write),
         (
-          subst (λ (l : Layout). SameObjects newer (data_page l) later (insert now.0 write.key (object_of number write)))
-              layout_is
-              (set told now.0 (subst (λ (l : Layout). SameObjects new (data_page l) after now.0) (sym layout_is) now.1.0)),
+          set now.0 now.1.0,
           ap (objects_with number now.0) (sym left_is) ∙ now.1.1,
+          λ told at_first.
+              subst (λ (l : Layout). AllStand newer l (insert now.0 write.key (object_of number write))) layout_is
+              (stand told now.0 now.1.0 (subst (λ (l : Layout). AllStand new l now.0) (sym layout_is) (now.1.2 told at_first))),
         ),
       ));
-  others = λ told p outside.
-      subst (λ (l : Layout). SameOff (IsOwnedPage l (blocks_of write.place)) new newer) layout_is (off told) p
-      (λ page. outside (page-among layout left rest all write p left_is among page))
-      ∙ so_far.others told p outside;
 }
+
+-- the pages of the next write are some of those of all
+pub OnlyWrites-next : {D : Type 0} (g : Ghosts D) (layout now_layout : Layout) (left rest all : List Write) (write : Write) (old mid new : D) → left ≡ write ∷ rest
+    → now_layout ≡ layout → ((at : ℕ) → owners (blocks_by (places_of left)) at ≤ owners (blocks_by (places_of all)) at)
+    → OnlyWrites g (IsOwnedPage layout (blocks_by (places_of all))) old mid → OnlyWrites g (IsOwnedPage now_layout (blocks_of write.place)) mid new
+    → OnlyWrites g (IsOwnedPage layout (blocks_by (places_of all))) old new
+OnlyWrites-next g layout now_layout left rest all write old mid new left_is layout_is among so_far one =
+    OnlyWrites-more g (IsOwnedPage layout (blocks_of write.place)) (IsOwnedPage layout (blocks_by (places_of all))) old mid new
+    (λ p page. page-among layout left rest all write p left_is among page) so_far
+    (subst (λ (l : Layout). OnlyWrites g (IsOwnedPage l (blocks_of write.place)) mid new) layout_is one)
+
+-- and so are the calls
+pub took-next : (writes : List Write) (i : ℕ) (write : Write) (was then now : Calls) → i < length writes → write ≡ get_or writes i write
+    → Took 0 (sum_by write_pages (take i writes)) 0 was then → Took 0 (write_pages write) 0 then now
+    → Took 0 (sum_by write_pages (take (i + 1) writes)) 0 was now
+took-next writes i write was then now less is so_far one =
+    let more : sum_by write_pages (take (i + 1) writes) ≡ sum_by write_pages (take i writes) + write_pages write =
+    sum_by_more write_pages writes i write less ∙ ap (λ (w : Write). sum_by write_pages (take i writes) + write_pages w) (sym is) in
+    record {
+      reads = omega (arith, so_far.reads, one.reads);
+      writes = omega (arith, so_far.writes, one.writes, more);
+      syncs = omega (arith, so_far.syncs, one.syncs);
+    }
+
+-- all of them, and then a sync
+pub took-all : (writes : List Write) (i : ℕ) (was then now : Calls) → i ≡ length writes → Took 0 (sum_by write_pages (take i writes)) 0 was then
+    → now ≡ with_sync then → Took 0 (sum_by write_pages writes) 1 was now
+took-all writes i was then now all took made =
+    let same : sum_by write_pages (take i writes) ≡ sum_by write_pages writes = ap (sum_by write_pages) (take_all i writes (omega (arith, all))) in
+    record {
+      reads = omega (arith, took.reads, ap (λ (c : Calls). c.reads) made);
+      writes = omega (arith, took.writes, same, ap (λ (c : Calls). c.writes) made);
+      syncs = omega (arith, took.syncs, ap (λ (c : Calls). c.syncs) made);
+    }
 
 -- the blocks of the next write are among the data pages
 pub next-within : (pages : ℕ) (layout now_layout : Layout) (space behind : List Block) (left rest : List Write)
@@ -179,16 +216,12 @@ next-is writes i write less is =
     rw (add-one) (drop-cons writes i write less ∙ ap (λ (w : Write). w ∷ drop (suc i) writes) (sym is))
 
 -- What writes leave alone, and what they take at most, so many of them.
-pub record Kept (old new : Store) (old_size new_size old_faults new_faults : ℕ) (old_frugal new_frugal : Bool)
-    (all i : ℕ) : Type 0 where
+pub record Remains (old new : Store) (all i : ℕ) : Type 0 where
   pub space : new.space ≡ old.space
   pub layout : new.layout ≡ old.layout
   pub last : new.last ≡ old.last
   pub spare : all ≤ new.relation.spare + i
-  pub bytes : encoded_by new.relation.states ≤ encoded_by old.relation.states + 4717 * i
-  pub size : new_size ≡ old_size
-  pub faults : old_faults ≤ new_faults
-  pub frugal : new_frugal ≡ old_frugal
+  pub bytes : encoded_by new.relation.states ≤ encoded_by old.relation.states + greatest_tuple * i
 
 -- all are done: the space owns what was replaced, and what the states own
 pub owned-done : (space replaced now : List Block) (writes left : List Write) (i : ℕ) → i ≡ length writes
@@ -202,12 +235,14 @@ owned-done space replaced now writes left i all left_is moves =
 pub objects-done : (tells : Bool) (layout : Layout) (number : ℕ) (old new : Image) (before after : FinMap key_order State)
     (space replaced : List Block) (writes : List Write) (i : ℕ) (objects : FinMap key_order Object)
     → Writing tells layout number old new before after space replaced writes (drop i writes) → i ≡ length writes
-    → IsTrue tells
-    → SameObjects old (data_page layout) before objects
-    → SameObjects new (data_page layout) after (objects_with number objects writes)
-objects-done tells layout number old new before after space replaced writes i objects done all told stand =
-    let now = done.objects told objects stand in
+    → SameObjects before objects
+    → SameObjects after (objects_with number objects writes)
+    × (IsTrue tells → AllStand old layout objects → AllStand new layout (objects_with number objects writes))
+objects-done tells layout number old new before after space replaced writes i objects done all stand =
+    let now = done.objects objects stand in
     let none : drop i writes ≡ [] = drop_all i writes (omega (arith, all)) in
     let same : now.0 ≡ objects_with number objects writes =
-    ap (objects_with number now.0) (sym none) ∙ now.1.1 in
-    subst (λ (m : FinMap key_order Object). SameObjects new (data_page layout) after m) same now.1.0
+    ap (objects_with number now.0) (sym none) ∙ now.1.1 in (
+      subst (SameObjects after) same now.1.0,
+      λ told at_first. subst (AllStand new layout) same (now.1.2 told at_first),
+    )

@@ -1,24 +1,49 @@
 -- Why a step has no answer.
-use Rattle.std.specs.Prelude.{◌≢◌, ℕ, ⊤}
+use Rattle.std.specs.Prelude.{ℕ, ◌≡◌, ⊤, List}
+use Rattle.std.specs.FinMap.{FinMap}
 use Rattle.blob_base.specs.Faults.{Rose}
 use Rattle.blob_base.specs.declared.faults.IoFault.{IoFault}
 use Rattle.blob_base.specs.declared.faults.IoFault.TheVariants as io
 use Rattle.blob_steps.specs.declared.fault.StepFault.{StepFault}
 use Rattle.blob_steps.specs.declared.fault.StepFault.TheVariants as fault
+use Rattle.store_model.specs.Disk.{Image}
+use Rattle.store_model.specs.Key.{key_order}
+use Rattle.store_model.specs.Standing.{IsDamaged}
+use Rattle.store_model.specs.State.{State}
+use Rattle.store_model.specs.Store.{Object}
+use Rattle.store_model.specs.Verify.{FailsFirst, IsDamage, computed}
 
 -- what a fault of the disk is to a step
 abbrev pub step_fault : IoFault → StepFault
 step_fault io.Failed = fault.Failed
 step_fault io.OutOfMemory = fault.OutOfMemory
 
--- The disk failed only where the count of its faults rose, and two values that differ show damage.
-abbrev pub IsStepFault : ℕ → ℕ → StepFault → Type 0
-IsStepFault before now fault.Failed = Rose before now
-IsStepFault before now fault.OutOfMemory = ⊤
-IsStepFault before now (fault.Damaged key link want got) = want ≢ got
+-- The disk failed only where the count of its faults rose.
+abbrev pub IsRaised : ℕ → ℕ → StepFault → Type 0
+IsRaised before now fault.Failed = Rose before now
+IsRaised before now fault.OutOfMemory = ⊤
+IsRaised before now (fault.Damaged key link want got) = ⊤
+
+-- Damage is that of an object.
+abbrev pub ShowsDamage : FinMap key_order Object → StepFault → Type 0
+ShowsDamage objects fault.Failed = ⊤
+ShowsDamage objects fault.OutOfMemory = ⊤
+ShowsDamage objects (fault.Damaged key link want got) = IsDamaged objects key link want got
+
+-- Damage is that of this key and this state.
+abbrev pub DamageOf : List ℕ → State → StepFault → Type 0
+DamageOf one state fault.Failed = ⊤
+DamageOf one state fault.OutOfMemory = ⊤
+DamageOf one state (fault.Damaged key link want got) = (key ≡ one) × IsDamage state link want got
+
+-- Damage is what the pages of this state give.
+abbrev pub FailsOn : Image → ℕ → State → StepFault → Type 0
+FailsOn image first state fault.Failed = ⊤
+FailsOn image first state fault.OutOfMemory = ⊤
+FailsOn image first state (fault.Damaged key link want got) = FailsFirst (computed image first state) state link want got
 
 -- a fault other than damage
-abbrev pub IsWhole : StepFault → Type 0
-IsWhole fault.Failed = ⊤
-IsWhole fault.OutOfMemory = ⊤
-IsWhole (fault.Damaged key link want got) = ⊥
+abbrev pub IsUndamagedFault : StepFault → Type 0
+IsUndamagedFault fault.Failed = ⊤
+IsUndamagedFault fault.OutOfMemory = ⊤
+IsUndamagedFault (fault.Damaged key link want got) = ⊥

@@ -10,3 +10,4 @@ pub mod Places
 pub mod Stores
 pub mod Steps
 pub mod Runs
+pub mod Going

@@ -6,13 +6,11 @@ use Rattle.extent_alloc.specs.Parts.{Parts}
 use Rattle.store_model.specs.Judgement.{places_for}
 use Rattle.store_model.specs.Places.{taken}
 use Rattle.store_model.specs.Space.{Block, blocks_of}
-use Rattle.store_model.specs.Store.{Place}
+use Rattle.store_model.specs.Store.{Placement}
 use Rattle.store_model.specs.Transaction.{Change}
 use Rattle.blob_steps.specs.declared.write.Write.{Write}
 use Rattle.blob_steps.specs.declared.places.TakeFault.{TakeFault}
 use Rattle.blob_steps.specs.declared.places.TakeFault.TheVariants as take
-use Rattle.blob_steps.specs.declared.places.PlaceFault.{PlaceFault}
-use Rattle.blob_steps.specs.declared.places.PlaceFault.TheVariants as place
 
 -- the page of a tail, where there is one
 abbrev pub tail_list : Option ℕ → List ℕ
@@ -20,11 +18,11 @@ tail_list None = []
 tail_list (Some page) = page ∷ []
 
 -- the heads of a place's blocks: those of its extents in order, and then its tail
-abbrev pub heads_by : Place → List ℕ
+abbrev pub heads_by : Placement → List ℕ
 heads_by place = place.heads ++ tail_list place.tail
 
 -- the blocks of places, one behind the other
-abbrev pub blocks_by : List Place → List Block
+abbrev pub blocks_by : List Placement → List Block
 blocks_by places = flat_map blocks_of places
 
 -- the keys that writes set, with their changes
@@ -32,7 +30,7 @@ abbrev pub changes_of : List Write → List (List ℕ × Change)
 changes_of writes = map (λ write. (write.key, write.change)) writes
 
 -- and with their places
-abbrev pub places_of : List Write → List Place
+abbrev pub places_of : List Write → List Placement
 places_of writes = map (λ write. write.place) writes
 
 -- these heads before the others
@@ -41,8 +39,8 @@ heads_then before (Ok heads) = Ok (before ++ heads)
 heads_then before (Err tier) = Err tier
 
 -- Blocks of these tiers have these heads in the old space, and what further tiers take is taken in the new one.
-abbrev pub Took : List ℕ → List ℕ → Parts → Parts → Type 0
-Took tiers heads old new = (rest : List ℕ) → taken old.pages (tiers ++ rest) old.owned ≡ heads_then heads (taken old.pages rest new.owned)
+abbrev pub TakesHeads : List ℕ → List ℕ → Parts → Parts → Type 0
+TakesHeads tiers heads old new = (rest : List ℕ) → taken old.pages (tiers ++ rest) old.owned ≡ heads_then heads (taken old.pages rest new.owned)
 
 -- one of these tiers finds no place: this one
 abbrev pub Fails : List ℕ → ℕ → Parts → Type 0
@@ -56,11 +54,11 @@ pub record Takes (more : List Block) (old new : Parts) (before after : List Bloc
   pub listed : after ≡ before ++ more
 
 -- why blocks of these tiers weren't taken; those before the one that found no place are
-abbrev pub IsTakeFault : List ℕ → Parts → Parts → List Block → List Block → TakeFault → Type 0
-IsTakeFault tiers old new before after (take.NoSpace tier) = Fails tiers tier old × ((more : List Block) × Takes more old new before after)
+abbrev pub IsTakeFault : List ℕ → Parts → Parts → List Block → List Block → TakeFault (Unit {0}) → Type 0
+IsTakeFault tiers old new before after (take.NoSpace key tier) = Fails tiers tier old × ((more : List Block) × Takes more old new before after)
 IsTakeFault tiers old new before after take.OutOfMemory = Unit {0}
 
 -- why changes have no places; what was taken before is listed
-abbrev pub IsPlaceFault : List (List ℕ × Change) → Parts → Parts → List Block → PlaceFault → Type 0
-IsPlaceFault changes old new after (place.NoSpace key tier) = (places_for old.pages changes old.owned ≡ Err (key, tier)) × ((more : List Block) × Takes more old new [] after)
-IsPlaceFault changes old new after place.OutOfMemory = Unit {0}
+abbrev pub IsPlaceFault : List (List ℕ × Change) → Parts → Parts → List Block → TakeFault (List ℕ) → Type 0
+IsPlaceFault changes old new after (take.NoSpace key tier) = (places_for old.pages changes old.owned ≡ Err (key, tier)) × ((more : List Block) × Takes more old new [] after)
+IsPlaceFault changes old new after take.OutOfMemory = Unit {0}

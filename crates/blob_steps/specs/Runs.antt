@@ -1,29 +1,28 @@
 -- Whole runs, in the words of the definitions.
-use Rattle.std.specs.Prelude.{◌≡◌, ◌≢◌, ℕ, ◌≤◌, ◌⊎◌, ⊤, Bool, false, List, [], ◌∷◌, ◌++◌, Option, Some, None}
-use Rattle.std.specs.FinMap.{get}
+use Rattle.std.specs.Prelude.{◌≡◌, ℕ, ◌<◌, ◌⊎◌, ◌↔◌, ⊤, Bool, false, IsTrue, List, ◌++◌, Option, Some}
+use Rattle.std.specs.FinMap.{FinMap}
 use Rattle.std.specs.Io.KnownBytes.{Appends}
-use Rattle.blob_base.specs.Faults.{Rose}
-use Rattle.blob_base.specs.declared.faults.IoFault.TheVariants.{Failed, OutOfMemory}
-use Rattle.blob_steps.specs.declared.fault.StepFault.{StepFault}
-use Rattle.blob_steps.specs.declared.fault.StepFault.TheVariants as fault
-use Rattle.blob_steps.specs.declared.line.LineFault.{LineFault}
-use Rattle.blob_steps.specs.declared.line.LineFault.TheVariants as line
+use Rattle.blob_base.specs.Faults.{KeepsEnd, Rose}
+use Rattle.blob_base.specs.declared.faults.StoreRefusal.{StoreRefusal}
+use Rattle.blob_base.specs.declared.faults.StoreRefusal.TheVariants.{TooSmall}
+use Rattle.disk_model.specs.Disks.{Keeps}
+use Rattle.disk_model.specs.declared.disk.Disk as disk_trait
+use Rattle.io_ends.specs.declared.traits.Source as source_trait
+use Rattle.io_ends.specs.declared.traits.Sink as sink_trait
 use Rattle.blob_steps.specs.declared.status.Status.{Status}
 use Rattle.blob_steps.specs.declared.status.Status.TheVariants as status
-use Rattle.blob_steps.specs.declared.world.World.{World}
 use Rattle.blob_steps.specs.Endings.{ending_of}
-use Rattle.blob_steps.specs.Steps.{Stands}
-use Rattle.blob_steps.specs.Lines.{LineTaken}
-use Rattle.store_model.specs.Disk.{Image, SameOff}
-use Rattle.store_model.specs.Holds.{Stands as Stored}
-use Rattle.store_model.specs.Layout.{Layout, data_page}
-use Rattle.store_model.specs.Space.{IsOwnedPage}
-use Rattle.store_model.specs.Store.{Object}
-use Rattle.store_model.specs.Answer.{line_end}
 use Rattle.store_model.specs.Closing.{closing_text}
-use Rattle.store_model.specs.Group as model
-use Rattle.store_model.specs.Play.{Played, play_steps}
-use Rattle.store_model.specs.Script.{Step, AtInputEnd, AtLine, lines_of, step_at, steps_from}
+use Rattle.store_model.specs.Cost.{Spent}
+use Rattle.store_model.specs.Form.{Form, Fresh, IsForm, IsNoForm}
+use Rattle.store_model.specs.Images.{Wrote}
+use Rattle.store_model.specs.Key.{key_order}
+use Rattle.store_model.specs.Layout.{Layout, total_pages}
+use Rattle.store_model.specs.Play.{Played, PlayedLine, play, store_behind, taken_in, text_of}
+use Rattle.store_model.specs.Script.{AtInputEnd, AtLine}
+use Rattle.store_model.specs.Space.{IsOwnedPage}
+use Rattle.store_model.specs.Standing.{AllStand, IsDamaged}
+use Rattle.store_model.specs.Store.{Object, Store, empty_store}
 
 -- how often each of the three ends has failed
 pub record Counts : Type 0 where
@@ -31,28 +30,45 @@ pub record Counts : Type 0 where
   pub sink : ℕ
   pub disk : ℕ
 
--- a fault is told only where the count of that end rose, and damage only where two values differ
-abbrev pub HasReason : Status → Counts → Counts → Type 0
-HasReason status.ReadFault before now = Rose before.source now.source
-HasReason status.WriteFault before now = Rose before.sink now.sink
-HasReason status.DiskFault before now = Rose before.disk now.disk
-HasReason (status.Damaged key link want got) before now = want ≢ got
-HasReason _ before now = ⊤
+-- a fault is told only where the count of that end rose
+abbrev pub IsRaised : Status → Counts → Counts → Type 0
+IsRaised status.ReadFault before now = Rose before.source now.source
+IsRaised status.WriteFault before now = Rose before.sink now.sink
+IsRaised status.DiskFault before now = Rose before.disk now.disk
+IsRaised _ before now = ⊤
 
--- no count fell
-pub record Later (before now : Counts) : Type 0 where
-  pub source : before.source ≤ now.source
-  pub sink : before.sink ≤ now.sink
-  pub disk : before.disk ≤ now.disk
+-- damage is told only of one of these objects
+abbrev pub ShowsDamage : Status → FinMap key_order Object → Type 0
+ShowsDamage (status.Damaged key link want got) objects = IsDamaged objects key link want got
+ShowsDamage _ objects = ⊤
+
+-- a status other than damage
+abbrev pub IsUndamaged : Status → Type 0
+IsUndamaged (status.Damaged key link want got) = ⊥
+IsUndamaged _ = ⊤
+
+-- a status with which no script was run
+abbrev pub IsTurnedAway : Status → Type 0
+IsTurnedAway (status.Refused why) = ⊤
+IsTurnedAway status.Usage = ⊤
+IsTurnedAway _ = ⊥
+
+-- a status with which a script was run to its end
+abbrev pub OnPlayed : Status → Type 0 → Type 0
+OnPlayed status.Done P = P
+OnPlayed (status.NotBuilt line) P = P
+OnPlayed _ P = ⊤
+
+-- These lines of a play were run: all of them where the run came to the end that the play has, and else the first ones.
+abbrev pub Ran : Status → List PlayedLine → Played → Type 0
+Ran status.Done lines whole = (lines ≡ whole.lines) × (whole.end ≡ AtInputEnd)
+Ran (status.NotBuilt line) lines whole = (lines ≡ whole.lines) × (whole.end ≡ AtLine line)
+Ran _ lines whole = (rest : List PlayedLine) × (whole.lines ≡ lines ++ rest)
 
 -- `front` is the front of `whole`
 pub record IsFront (front whole : List ℕ) : Type 0 where
   pub rest : List ℕ
   pub whole_is : whole ≡ front ++ rest
-
--- nothing, or whole lines
-abbrev pub EndsLine : List ℕ → Type 0
-EndsLine text = (text ≡ []) ⊎ ((front : List ℕ) × (text ≡ front ++ line_end))
 
 -- The statuses after which the last line that the sink took may be cut short: its own fault, and want of memory of a
 -- sink that isn't frugal.
@@ -61,69 +77,15 @@ MayCut status.WriteFault frugal = ⊤
 MayCut status.OutOfMemory frugal = frugal ≡ false
 MayCut _ frugal = ⊥
 
--- the first line that is left asks for this step
-pub record TakesStep (number : ℕ) (old new : Option (List ℕ)) (step : Step) : Type 0 where
-  pub line : List ℕ
-  pub taken : LineTaken old line new
-  pub asks : step_at number line ≡ Some step
-
--- the first line that is left is none of those that are built
-abbrev pub BadLine : ℕ → Option (List ℕ) → Type 0
-BadLine number None = ⊤
-BadLine number (Some script) = (line : List ℕ) × (rest : List (List ℕ)) × (lines_of script ≡ line ∷ rest) × (step_at number line ≡ None)
-
--- the play of lines from this number on, from this world on
-abbrev pub playing : Layout → ℕ → model.World → List (List ℕ) → Played
-playing layout number world lines = record {
-  text = (play_steps layout world (steps_from number lines).steps).text;
-  end = (steps_from number lines).end;
-  world = (play_steps layout world (steps_from number lines).steps).world;
-}
-
--- some text, and then the play of what is left
-abbrev pub after_text : List ℕ → Played → Played
-after_text text played = record { text = text ++ played.text; end = played.end; world = played.world }
-
--- the disk and the program's world are at some world
-abbrev pub AtWorld : Image → World → Type 0
-AtWorld image mine = (base : Image) × (world : model.World) × Stands base image mine world
-
--- A run on the way: it is at a world, has printed whole lines, and what is left of the script plays on to the whole.
-pub record Going (base image : Image) (mine : World) (number : ℕ) (left old new : Option (List ℕ)) (whole : Played) : Type 0 where
-  pub world : model.World
-  pub stands : Stands base image mine world
+-- the sink took a front of this text
+pub record TookFront (old new : Option (List ℕ)) (whole : List ℕ) : Type 0 where
   pub text : List ℕ
   pub took : Appends old new text
-  pub lines : EndsLine text
-  pub script : List ℕ
-  pub left_is : left ≡ Some script
-  pub plays_on : after_text text (playing mine.store.layout number world (lines_of script)) ≡ whole
+  pub front : IsFront text whole
 
--- The sink took this text of a play, each object that it leaves stands in the data area, and no page of the disk has changed
--- but those that its committed contents took there.
-pub record Took (base image : Image) (layout : Layout) (old new : Option (List ℕ)) (whole : Played) : Type 0 where
-  pub text : Appends old new whole.text
-  pub objects : (key : List ℕ) (object : Object) → get whole.world.store.objects key ≡ Some object → Stored image (data_page layout) object
-  pub others : SameOff (IsOwnedPage layout whole.world.taken) base image
-
--- The sink took a front of a play's text, whole lines unless the status may cut one.
-pub record TookFront (status : Status) (frugal : Bool) (old new : Option (List ℕ)) (whole : Played) : Type 0 where
-  pub text : List ℕ
-  pub took : Appends old new text
-  pub front : IsFront text whole.text
-  pub lines : EndsLine text ⊎ MayCut status frugal
-
--- How a run over a known script and a disk that tells its pages ended, before the closing line. No content is damaged then.
-abbrev pub Ended : Status → Bool → Image → Image → Layout → Option (List ℕ) → Option (List ℕ) → Played → Type 0
-Ended status.Done frugal base image layout old new whole = (whole.end ≡ AtInputEnd) × Took base image layout old new whole
-Ended (status.NotBuilt line) frugal base image layout old new whole = (whole.end ≡ AtLine line) × Took base image layout old new whole
-Ended status.ReadFault frugal base image layout old new whole = TookFront status.ReadFault frugal old new whole
-Ended status.WriteFault frugal base image layout old new whole = TookFront status.WriteFault frugal old new whole
-Ended status.DiskFault frugal base image layout old new whole = TookFront status.DiskFault frugal old new whole
-Ended (status.Refused why) frugal base image layout old new whole = Appends old new []
-Ended status.OutOfMemory frugal base image layout old new whole = TookFront status.OutOfMemory frugal old new whole
-Ended status.Usage frugal base image layout old new whole = Appends old new []
-Ended (status.Damaged key link want got) frugal base image layout old new whole = ⊥
+-- The sink took what the lines print, or a front of that where the status may cut it short.
+abbrev pub TookLines : Status → Bool → Option (List ℕ) → Option (List ℕ) → List PlayedLine → Type 0
+TookLines status frugal old new lines = Appends old new (text_of lines) ⊎ (MayCut status frugal × TookFront old new (text_of lines))
 
 -- The closing line: the sink took a front of it, all of it unless the sink failed or a sink that isn't frugal found no
 -- memory.
@@ -133,63 +95,72 @@ pub record Closed (status : Status) (frugal : Bool) (before now : ℕ) (old new 
   pub front : IsFront line (closing_text (ending_of status))
   pub whole : (line ≡ closing_text (ending_of status)) ⊎ Rose before now ⊎ (frugal ≡ false)
 
--- what ends the reading of a line, other than well
-abbrev pub EndsReading : Status → ℕ → Option (List ℕ) → ℕ → ℕ → Type 0
-EndsReading (status.NotBuilt line) number left before now = (line ≡ number) × BadLine number left
-EndsReading status.ReadFault number left before now = Rose before now
-EndsReading status.OutOfMemory number left before now = ⊤
-EndsReading _ number left before now = ⊥
+-- What lines that begin with this store made of a disk: each object of the store behind them stands in the data area, and no
+-- page has changed but those that their committed transactions took, now or in a crash.
+pub record PagesAre {D : Type 0} (g : disk_trait.Ghosts D) (layout : Layout) (start : Store) (lines : List PlayedLine) (old new : D) : Type 0 where
+  pub objects : AllStand (g.story new).reads layout (store_behind start lines).objects
+  pub others : Wrote (IsOwnedPage layout (taken_in lines)) (g.story old) (g.story new)
 
--- what ends a step, other than well
-abbrev pub EndsStep : Status → ℕ → ℕ → Type 0
-EndsStep status.DiskFault before now = Rose before now
-EndsStep status.OutOfMemory before now = ⊤
-EndsStep (status.Damaged key link want got) before now = want ≢ got
-EndsStep _ before now = ⊥
+-- the layout of a form's store
+abbrev pub layout_of : Form → Layout
+layout_of (Fresh layout) = layout
 
--- what ends the printing of an answer, other than well
-abbrev pub EndsPrinting : Status → Bool → ℕ → ℕ → Type 0
-EndsPrinting status.WriteFault frugal before now = Rose before now
-EndsPrinting status.OutOfMemory frugal before now = frugal ≡ false
-EndsPrinting _ frugal before now = ⊥
+-- the disk has too few pages for the layout that the words give
+pub record IsTooSmall (words : List (List ℕ)) (size : ℕ) (why : StoreRefusal) : Type 0 where
+  pub form : Form
+  pub words_are : IsForm words form
+  pub small : size < total_pages (layout_of form)
+  pub why_is : why ≡ TooSmall (total_pages (layout_of form)) size
 
--- some line is left
-abbrev pub SomeLine : Option (List ℕ) → Type 0
-SomeLine None = ⊤
-SomeLine (Some script) = (line : List ℕ) × (rest : List (List ℕ)) × (lines_of script ≡ line ∷ rest)
+-- what each of the three ends keeps
+pub record KeepsEnds {S K D : Type 0} (source : source_trait.Ghosts S) (sink : sink_trait.Ghosts K) (disk : disk_trait.Ghosts D)
+    (source_old : S) (sink_old : K) (disk_old : D) (source_new : S) (sink_new : K) (disk_new : D) : Type 0 where
+  pub of_source : KeepsEnd source.faults source.frugal source_old source_new
+  pub of_sink : KeepsEnd sink.faults sink.frugal sink_old sink_new
+  pub of_disk : Keeps disk disk_old disk_new
 
--- what a step without an answer ends a run with
-abbrev pub step_ending : StepFault → Status
-step_ending fault.Failed = status.DiskFault
-step_ending fault.OutOfMemory = status.OutOfMemory
-step_ending (fault.Damaged key link want got) = status.Damaged key link want got
+-- the counts of their faults
+abbrev pub counts_of : {S K D : Type 0} → source_trait.Ghosts S → sink_trait.Ghosts K → disk_trait.Ghosts D → S → K → D → Counts
+counts_of source sink disk from to on = record { source = source.faults from; sink = sink.faults to; disk = disk.faults on }
 
--- a status other than damage
-abbrev pub IsUndamaged : Status → Type 0
-IsUndamaged (status.Damaged key link want got) = ⊥
-IsUndamaged _ = ⊤
+-- How the run of a script that began with this store ended, up to the closing line: which lines were run, and what came of them.
+pub record Ended {D : Type 0} (g : disk_trait.Ghosts D) (layout : Layout) (start : Store) (frugal : Bool) (script old new : Option (List ℕ)) (was now : D)
+    (status : Status) : Type 0 where
+  pub lines : List PlayedLine
+  pub ran : (text : List ℕ) → script ≡ Some text → Ran status lines (play layout start text)
+  pub took : IsTrue g.tells → TookLines status frugal old new lines
+  pub pages : IsTrue g.tells → OnPlayed status (PagesAre g layout start lines was now)
+  pub counts : IsTrue g.tells → OnPlayed status (Spent lines (g.calls was) (g.calls now))
+  pub damage : ShowsDamage status (store_behind start lines).objects
+  pub whole : IsTrue g.tells → IsUndamaged status
 
--- what a fault in reading a line ends a run with
-abbrev pub reading_ending : LineFault → Status
-reading_ending (line.Source Failed) = status.ReadFault
-reading_ending (line.Source OutOfMemory) = status.OutOfMemory
-reading_ending line.OutOfMemory = status.OutOfMemory
+-- The run of the form that the words are ended so, where the disk is large enough; nothing was run else.
+abbrev pub EndedBy : List (List ℕ) → (Layout → Type 0) → Status → Type 0
+EndedBy words P status = (IsTurnedAway status) ⊎ ((form : Form) × IsForm words form × P (layout_of form))
 
--- a status with which a script's run ends before its end
-abbrev pub IsRunning : Status → Type 0
-IsRunning status.Done = ⊥
-IsRunning (status.Refused why) = ⊥
-IsRunning status.Usage = ⊥
-IsRunning _ = ⊤
-
--- a status with which a script's run ends
-abbrev pub IsAccepted : Status → Type 0
-IsAccepted (status.Refused why) = ⊥
-IsAccepted status.Usage = ⊥
-IsAccepted _ = ⊤
-
--- a status with which no script was run
-abbrev pub IsTurnedAway : Status → Type 0
-IsTurnedAway (status.Refused why) = ⊤
-IsTurnedAway status.Usage = ⊤
-IsTurnedAway _ = ⊥
+-- The run of a command line over three ends: how it ended, and how it left them.
+pub record Run {S K D : Type 0} (source : source_trait.Ghosts S) (sink : sink_trait.Ghosts K) (disk : disk_trait.Ghosts D) (words : List (List ℕ))
+    (source_old : S) (sink_old : K) (disk_old : D) (how : Status) (source_new : S) (sink_new : K) (disk_new : D) : Type 0 where
+  -- Usage exactly where the words are no form, and Refused exactly where the layout exceeds the disk, with both numbers
+  pub usage : (how ≡ status.Usage) ↔ IsNoForm words
+  pub refused : (why : StoreRefusal) → (how ≡ status.Refused why) ↔ IsTooSmall words (disk.size disk_old) why
+  -- the lines of the script that were run, and what the sink tells to have taken before the closing line
+  pub lines : List PlayedLine
+  pub printed : Option (List ℕ)
+  -- after Usage and Refused the source and the disk are as they were, and nothing was printed
+  pub alone : IsTurnedAway how → (source_new ≡ source_old) × (disk_new ≡ disk_old) × (printed ≡ sink.taken sink_old)
+  -- of a known script: all lines up to its end, or the first ones
+  pub script : (form : Form) → IsForm words form → (script : List ℕ) → source.left source_old ≡ Some script
+      → Ran how lines (play (layout_of form) empty_store script)
+  -- what the sink took, over a disk that tells its pages: what these lines print, and then the closing line
+  pub text : IsTrue disk.tells → TookLines how (sink.frugal sink_old) (sink.taken sink_old) printed lines
+  pub closing : Closed how (sink.frugal sink_old) (sink.faults sink_old) (sink.faults sink_new) printed (sink.taken sink_new)
+  -- what the disk has, and what it has done
+  pub pages : (form : Form) → IsForm words form → IsTrue disk.tells → OnPlayed how (PagesAre disk (layout_of form) empty_store lines disk_old disk_new)
+  pub counts : IsTrue disk.tells → OnPlayed how (Spent lines (disk.calls disk_old) (disk.calls disk_new))
+  -- a fault and damage have their causes, and over a disk that tells its pages there is no damage
+  pub faults : IsRaised how (counts_of source sink disk source_old sink_old disk_old) (counts_of source sink disk source_new sink_new disk_new)
+  pub damage : ShowsDamage how (store_behind empty_store lines).objects
+  pub whole : IsTrue disk.tells → IsUndamaged how
+  -- no count of faults fell, the disk has its size, and each end is as frugal as it was
+  pub keeps : KeepsEnds source sink disk source_old sink_old disk_old source_new sink_new disk_new

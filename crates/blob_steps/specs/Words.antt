@@ -6,13 +6,13 @@ use Rattle.blob_steps.specs.declared.script.Action.TheVariants as action
 use Rattle.blob_steps.specs.declared.script.Step.{Step}
 use Rattle.blob_steps.specs.declared.script.Step.TheVariants as step
 use Rattle.blob_script.specs.Contents.{content_bytes}
-use Rattle.store_model.specs.Layout.{Layout}
+use Rattle.store_model.specs.Form as words
 use Rattle.store_model.specs.Turn as turn
 use Rattle.store_model.specs.Script as model
 
--- the layout that a form asks for
-abbrev pub layout_of : Form → Layout
-layout_of (form.Fresh layout) = layout
+-- the form that the definitions speak of
+abbrev pub model_form : Form → words.Form
+model_form (form.Fresh layout) = words.Fresh layout
 
 abbrev pub model_action : Action → turn.Action
 model_action action.Begin = turn.Begin

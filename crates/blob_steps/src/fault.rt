@@ -14,8 +14,8 @@ pub(crate) enum StepFault {
     Failed,
     /// There was no memory.
     OutOfMemory,
-    /// The pages of this key's content don't lead to what its state keeps: this link is the first that fails, with the
-    /// value that is kept and the one that the pages give.
+    /// The bytes read for this key's content don't lead to what its state keeps: this link is the first that fails, with
+    /// the value that is kept and the one that the bytes give.
     Damaged {
         key: Key,
         link: u32,

@@ -1,9 +1,9 @@
 // The words of a command line.
 
 ghost use Rattle.std.specs.Prelude.{◌≡◌, IfSome, IfNone};
-ghost use Rattle.store_model.specs.Form.{IsFresh};
-ghost use Rattle.store_model.specs.Layout.{Layout as LayoutParts};
-ghost use Rattle.blob_steps.specs.Words.{layout_of};
+ghost use Rattle.store_model.specs.Form.{IsForm, IsNoForm};
+ghost use Rattle.blob_steps.specs.Runs.{layout_of};
+ghost use Rattle.blob_steps.specs.Words.{model_form};
 
 use blob_base::Word;
 use blob_script::number_of;
@@ -19,8 +19,8 @@ pub enum Form {
 impl Form {
     /// The form that the words are, where they are one.
     pub fn read(words: &[Word]) -> Option<Form>
-        ensures form { IfSome result (λ form. IsFresh words.now (layout_of form)) }
-        ensures none { IfNone result ((layout : LayoutParts) → IsFresh words.now layout → ⊥) }
+        ensures form { IfSome result (λ form. IsForm words.now (model_form form)) }
+        ensures none { IfNone result (IsNoForm words.now) }
     {
         let [verb, file, units, room] = words else {
             return None;
@@ -40,7 +40,7 @@ impl Form {
 
     /// The layout of its store.
     pub fn layout(&self) -> Layout
-        ensures { result ≡ layout_of self.now }
+        ensures { result ≡ layout_of (model_form self.now) }
     {
         match self {
             Form::Fresh { layout } => *layout,

@@ -3,7 +3,7 @@
 ghost use Rattle.std.specs.Prelude.{◌≡◌, ◌<◌, ◌≤◌, ◌++◌, ◌↔◌, [], ℕ, false, length, IfOk, OnOk, IfErr, IsTrue};
 ghost use Rattle.std.specs.List.{before_first, after_first, position, position_or_len};
 ghost use Rattle.std.specs.Io.KnownBytes.{prepend_known, IsAtEnd, Keeps};
-ghost use Rattle.blob_base.specs.Faults.{HasCause};
+ghost use Rattle.blob_base.specs.Faults.{CameFrom, HasCause, KeepsEnd};
 ghost use Rattle.blob_steps.specs.Lines.{LineTaken, NoLine, LongLine, is_line_end};
 ghost use Rattle.blob_steps.specs.declared.line.LineFault.TheVariants as fault;
 
@@ -91,9 +91,8 @@ impl LineReader {
         ensures kept { OnOk result (Keeps (prepend_known self.old (S.left source.old)) (prepend_known self.new (S.left source.new))) }
         ensures some { IfOk result (λ more. IsTrue more ↔ (0 < length self.new)) }
         ensures at_end { IfOk result (λ more. more ≡ false → IsAtEnd (prepend_known self.new (S.left source.new))) }
-        ensures cause { IfErr result (λ cause. HasCause cause (S.faults source.old) (S.faults source.new) (S.frugal source.old)) }
-        ensures faults { S.faults source.old ≤ S.faults source.new }
-        ensures frugal { S.frugal source.new ≡ S.frugal source.old }
+        ensures cause { HasCause S.faults S.frugal source.old source.new result }
+        ensures keeps { KeepsEnd S.faults S.frugal source.old source.new }
     {
         if self.from < self.to {
             return Ok(true);
@@ -141,9 +140,8 @@ impl LineReader {
         ensures at_end { result ≡ Ok Found.End → IsAtEnd (prepend_known self.new (S.left source.new)) }
         ensures long { result ≡ Ok Found.LongLine → LongLine (prepend_known self.old (S.left source.old)) }
         ensures cause { (cause : IoFault) → result ≡ Err (LineFault.Source cause)
-            → HasCause cause (S.faults source.old) (S.faults source.new) (S.frugal source.old) }
-        ensures faults { S.faults source.old ≤ S.faults source.new }
-        ensures frugal { S.frugal source.new ≡ S.frugal source.old }
+            → CameFrom cause (S.faults source.old) (S.faults source.new) (S.frugal source.old) }
+        ensures keeps { KeepsEnd S.faults S.frugal source.old source.new }
     {
         line.clear();
         while line.len() <= MAX_LINE_BYTES {

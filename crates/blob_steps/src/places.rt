@@ -10,36 +10,39 @@ ghost use Rattle.store_model.specs.Transaction.{content_of};
 ghost use Rattle.store_model.specs.Shape.{pages_of_tier};
 ghost use Rattle.store_model.specs.Space.{Block, blocks_of, extent_blocks, tail_blocks};
 ghost use Rattle.store_model.specs.State.{AreAligned};
-ghost use Rattle.blob_steps.specs.Places.{IsPlaceFault, IsTakeFault, Takes, Took, blocks_by, changes_of, heads_by, places_of, tail_list};
+ghost use Rattle.blob_steps.specs.Places.{IsPlaceFault, IsTakeFault, Takes, TakesHeads, blocks_by, changes_of, heads_by, places_of, tail_list};
 ghost use Rattle.blob_steps.specs.declared.places.TakeFault.TheVariants as fault;
-ghost use Rattle.blob_steps.specs.declared.places.PlaceFault.TheVariants as place_fault;
 
 use crate::key_map::KeyMap;
 use crate::session::Change;
-use crate::write::{Place, Write};
+use crate::write::{Placement, Write};
 use arrayvec::ArrayVec;
 use blob_base::{Key, OutOfMemory, Owned};
 use extent_alloc::{NoSpace, Space};
 use std::alloc::{AllocFailed, Global};
-use tier_table::{shape, tier};
+use tier_table::{MAX_EXTENTS, tier};
 
-/// Why no place is taken.
-pub(crate) enum TakeFault {
+/// Why no place is taken: of a block (`K` is `()`), or of a request's contents (`K` is their keys' type).
+#[derive(Drop)]
+pub(crate) enum TakeFault<K> {
     /// No place of this tier is free.
-    NoSpace { tier: u32 },
+    NoSpace { key: K, tier: u32 },
     /// There was no memory.
     OutOfMemory,
 }
 
-impl From<NoSpace> for TakeFault {
-    ghost from_gives = { λ none e. e ≡ fault.NoSpace none.tier };
+impl From<NoSpace> for TakeFault<()> {
+    ghost from_gives = { λ none e. e ≡ fault.NoSpace tt none.tier };
 
     fn from(none: NoSpace) -> Self {
-        TakeFault::NoSpace { tier: none.tier }
+        TakeFault::NoSpace {
+            key: (),
+            tier: none.tier,
+        }
     }
 }
 
-impl From<OutOfMemory> for TakeFault {
+impl From<OutOfMemory> for TakeFault<()> {
     ghost from_gives = { λ _ e. e ≡ fault.OutOfMemory };
 
     fn from(_: OutOfMemory) -> Self {
@@ -47,20 +50,11 @@ impl From<OutOfMemory> for TakeFault {
     }
 }
 
-/// Why a request takes no places.
-#[derive(Drop)]
-pub(crate) enum PlaceFault {
-    /// For this key no place of this tier is free.
-    NoSpace { key: Key, tier: u32 },
-    /// There was no memory.
-    OutOfMemory,
-}
-
-impl From<AllocFailed<Write>> for PlaceFault {
-    ghost from_gives = { λ _ e. e ≡ place_fault.OutOfMemory };
+impl From<AllocFailed<Write>> for TakeFault<Key> {
+    ghost from_gives = { λ _ e. e ≡ fault.OutOfMemory };
 
     fn from(_: AllocFailed<Write>) -> Self {
-        PlaceFault::OutOfMemory
+        TakeFault::OutOfMemory
     }
 }
 
@@ -70,11 +64,11 @@ fn take_block(
     space: &mut Space,
     tier: u32,
     taken: &mut Owned,
-) -> Result<u32, TakeFault>
+) -> Result<u32, TakeFault<()>>
     requires tier { tier ≤ 10 }
     requires spare { length taken.old ≤ space.old.spare }
     requires few { length taken.old < 2 ^ 32 }
-    ensures found { IfOk result (λ head. Took (tier ∷ []) (head ∷ []) space.old space.new) }
+    ensures found { IfOk result (λ head. TakesHeads (tier ∷ []) (head ∷ []) space.old space.new) }
     ensures takes { IfOk result (λ head. Takes ((head, tier) ∷ []) space.old space.new taken.old taken.new) }
     ensures aligned { IfOk result (λ head. head % pages_of_tier tier ≡ 0) }
     ensures fault { IfErr result (IsTakeFault (tier ∷ []) space.old space.new taken.old taken.new) }
@@ -91,11 +85,11 @@ fn take_extents(
     space: &mut Space,
     extents: u32,
     taken: &mut Owned,
-) -> Result<ArrayVec<u32, 127>, TakeFault>
-    requires most { extents ≤ 127 }
+) -> Result<ArrayVec<u32, MAX_EXTENTS>, TakeFault<()>>
+    requires most { extents ≤ MAX_EXTENTS }
     requires spare { length taken.old ≤ space.old.spare }
     requires few { length taken.old < 2 ^ 31 }
-    ensures found { IfOk result (λ heads. Took (extent_tiers extents) heads.items space.old space.new) }
+    ensures found { IfOk result (λ heads. TakesHeads (extent_tiers extents) heads.items space.old space.new) }
     ensures takes { IfOk result (λ heads. Takes (extent_blocks heads.items) space.old space.new taken.old taken.new) }
     ensures count { IfOk result (λ heads. length heads.items ≡ extents) }
     ensures aligned { IfOk result (λ heads. AreAligned heads.items) }
@@ -114,10 +108,10 @@ fn take_tail(
     space: &mut Space,
     has_tail: bool,
     taken: &mut Owned,
-) -> Result<Option<u32>, TakeFault>
+) -> Result<Option<u32>, TakeFault<()>>
     requires spare { length taken.old ≤ space.old.spare }
     requires few { length taken.old < 2 ^ 32 }
-    ensures found { IfOk result (λ tail. Took (if has_tail then 0 ∷ [] else []) (tail_list tail) space.old space.new) }
+    ensures found { IfOk result (λ tail. TakesHeads (if has_tail then 0 ∷ [] else []) (tail_list tail) space.old space.new) }
     ensures takes { IfOk result (λ tail. Takes (tail_blocks tail) space.old space.new taken.old taken.new) }
     ensures there { IfOk result (λ tail. is_some tail ≡ has_tail) }
     ensures fault { IfErr result (IsTakeFault (if has_tail then 0 ∷ [] else []) space.old space.new taken.old taken.new) }
@@ -135,17 +129,17 @@ fn take_place(
     space: &mut Space,
     change: &Change,
     taken: &mut Owned,
-) -> Result<Place, TakeFault>
+) -> Result<Placement, TakeFault<()>>
     requires spare { length taken.old ≤ space.old.spare }
     requires few { length taken.old < 2 ^ 31 }
-    ensures found { IfOk result (λ place. Took (tiers_for (length (content_of change.now))) (heads_by place) space.old space.new) }
+    ensures found { IfOk result (λ place. TakesHeads (tiers_for (length (content_of change.now))) (heads_by place) space.old space.new) }
     ensures takes { IfOk result (λ place. Takes (blocks_of place) space.old space.new taken.old taken.new) }
     ensures fits { IfOk result (Fits (length (content_of change.now))) }
     ensures fault { IfErr result (IsTakeFault (tiers_for (length (content_of change.now))) space.old space.new taken.old taken.new) }
 {
     let heads = take_extents(alloc, space, change.extents(), taken)?;
     let tail = take_tail(alloc, space, change.has_tail(), taken)?;
-    Ok(Place { heads, tail })
+    Ok(Placement { heads, tail })
 }
 
 /// Takes the places of changes in the order of their keys, and lists the blocks that were taken. Where a key finds no
@@ -155,7 +149,7 @@ pub(crate) fn take_places(
     space: &mut Space,
     mut changes: KeyMap<Change>,
     taken: &mut Owned,
-) -> Result<Vec<Write>, PlaceFault>
+) -> Result<Vec<Write>, TakeFault<Key>>
     requires few { map.len changes ≤ 1024 }
     requires none { taken.old ≡ [] }
     ensures found { IfOk result (λ writes. places_for space.old.pages (map.entries changes) space.old.owned ≡ Ok (places_of writes.items)) }
@@ -168,8 +162,8 @@ pub(crate) fn take_places(
     'placed: while let Some((key, change)) = changes.pop_first() {
         let place = match take_place(alloc, space, &change, taken) {
             Ok(place) => place,
-            Err(TakeFault::NoSpace { tier }) => return Err(PlaceFault::NoSpace { key, tier }),
-            Err(TakeFault::OutOfMemory) => return Err(PlaceFault::OutOfMemory),
+            Err(TakeFault::NoSpace { tier, .. }) => return Err(TakeFault::NoSpace { key, tier }),
+            Err(TakeFault::OutOfMemory) => return Err(TakeFault::OutOfMemory),
         };
         writes.push(Write { key, change, place })?;
     }

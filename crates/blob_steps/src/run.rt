@@ -2,21 +2,23 @@
 
 ghost use Rattle.std.specs.Prelude.{◌≡◌, ◌≢◌, ◌⊎◌, ◌↔◌, ◌<◌, ◌≤◌, ◌++◌, ◌+◌, ℕ, [], List, Option, Some, None, Ok, Err, take, length, OnOk, OnErr, IfOk, IfErr, IfSome, MatchBool, MatchOption, MatchResult, IsTrue, true, false};
 ghost use Rattle.std.specs.Io.KnownBytes.{prepend_known, Appends};
-ghost use Rattle.blob_base.specs.Faults.{Rose};
+ghost use Rattle.blob_base.specs.Faults.{KeepsEnd};
 ghost use Rattle.blob_base.specs.declared.faults.StoreRefusal.{StoreRefusal};
 ghost use Rattle.blob_base.specs.declared.faults.StoreRefusal.TheVariants.{TooSmall};
-ghost use Rattle.store_model.specs.Disk.{Image};
-ghost use Rattle.store_model.specs.Form.{IsFresh};
-ghost use Rattle.store_model.specs.Layout.{Layout as LayoutParts, total_pages};
-ghost use Rattle.store_model.specs.Group.{World as ModelWorld, new_world};
-ghost use Rattle.store_model.specs.Play.{Played, play, step_play};
-ghost use Rattle.store_model.specs.Script.{Step as ModelStep};
-ghost use Rattle.blob_steps.specs.Steps.{Stands, IsDone, IsPlayed, weight};
+ghost use Rattle.disk_model.specs.Disks.{Keeps};
+ghost use Rattle.store_model.specs.Form.{IsNoForm};
+ghost use Rattle.store_model.specs.Layout.{total_pages};
+ghost use Rattle.store_model.specs.Group.{World as ModelWorld, world_over};
+ghost use Rattle.store_model.specs.Play.{step_play};
+ghost use Rattle.store_model.specs.Standing.{AllStand};
+ghost use Rattle.store_model.specs.Store.{Store as ModelStore, empty_store};
+ghost use Rattle.blob_steps.specs.Steps.{CameTo, IsPlayed, WorldStands, weight};
 ghost use Rattle.blob_steps.specs.Words.{model_step};
 ghost use Rattle.blob_steps.specs.Answers.{text_of};
 ghost use Rattle.blob_steps.specs.Lines.{NoLine};
 ghost use Rattle.blob_steps.specs.Stores.{IsSound};
-ghost use Rattle.blob_steps.specs.Runs.{AtWorld, Closed, Counts, Ended, EndsPrinting, EndsReading, EndsStep, Going, HasReason, IsAccepted, IsRunning, IsTurnedAway, IsUndamaged, Later, SomeLine, TakesStep, reading_ending, step_ending};
+ghost use Rattle.blob_steps.specs.Runs.{Closed, Ended, EndedBy, IsRaised, IsTooSmall, IsTurnedAway, IsUndamaged, KeepsEnds, Run as WholeRun, ShowsDamage, counts_of};
+ghost use Rattle.blob_steps.specs.Going.{EndsPrinting, EndsReading, EndsStep, Going, IsAccepted, IsRunning, SomeLine, TakesStep, reading_ending, step_ending};
 
 use crate::fault::StepFault;
 use crate::form::Form;
@@ -47,8 +49,7 @@ fn print<K: Sink>(sink: &mut K, text: &[u8]) -> Result<(), Status>
     ensures front { OnErr result ((gone : ℕ) × Appends (K.taken sink.old) (K.taken sink.new) (take gone text.now)) }
     ensures ends { IfErr result (λ status.
         EndsPrinting status (K.frugal sink.old) (K.faults sink.old) (K.faults sink.new)) }
-    ensures faults { K.faults sink.old ≤ K.faults sink.new }
-    ensures frugal { K.frugal sink.new ≡ K.frugal sink.old }
+    ensures keeps { KeepsEnd K.faults K.frugal sink.old sink.new }
 {
     match put_all(sink, text) {
         Ok(()) => Ok(()),
@@ -65,7 +66,7 @@ impl Run {
         ensures sound { IfOk result (λ run. IsSound run.world.store) }
         ensures layout { IfOk result (λ run. run.world.store.layout ≡ layout) }
         ensures weight { IfOk result (λ run. weight run.world ≡ 0) }
-        ensures stands { IfOk result (λ run. (base : Image) → Stands base base run.world new_world) }
+        ensures stands { IfOk result (λ run. WorldStands run.world (world_over empty_store)) }
     {
         Ok(Run {
             reader: LineReader::new(),
@@ -90,8 +91,7 @@ impl Run {
         ensures ends { IfErr result (λ status. EndsReading status number (prepend_known self.old.reader (S.left source.old))
             (S.faults source.old) (S.faults source.new)) }
         ensures world { self.new.world ≡ self.old.world }
-        ensures faults { S.faults source.old ≤ S.faults source.new }
-        ensures frugal { S.frugal source.new ≡ S.frugal source.old }
+        ensures keeps { KeepsEnd S.faults S.frugal source.old source.new }
     {
         match self.reader.next_line(alloc, source, &mut self.line) {
             Ok(Found::Line) => match Step::read(alloc, self.line.as_slice()) {
@@ -112,8 +112,7 @@ impl Run {
         ensures ends { IfErr result (λ status. EndsReading status 17 (prepend_known self.old.reader (S.left source.old))
             (S.faults source.old) (S.faults source.new)) }
         ensures world { self.new.world ≡ self.old.world }
-        ensures faults { S.faults source.old ≤ S.faults source.new }
-        ensures frugal { S.frugal source.new ≡ S.frugal source.old }
+        ensures keeps { KeepsEnd S.faults S.frugal source.old source.new }
     {
         match self.reader.next_line(alloc, source, &mut self.line) {
             Ok(Found::Line) => Ok(false),
@@ -129,16 +128,20 @@ impl Run {
         requires played { IsPlayed (model_step step) }
         requires weight { weight self.old.world < 1024 }
         requires disk { total_pages self.old.world.store.layout ≤ D.size disk.old }
-        ensures step { IsTrue D.tells → (base : Image) (world : ModelWorld) → Stands base (D.story disk.old).reads self.old.world world
-            → MatchResult result (λ _. IsDone base (D.story disk.new).reads world (model_step step) self.new.text self.new.world) IsUndamaged }
+        ensures step { (world : ModelWorld) → WorldStands self.old.world world
+            → OnOk result (CameTo D.Disk world (step_play self.new.world.store.layout world (model_step step))
+            self.new.text self.new.world disk.old disk.new) }
+        ensures damage { (world : ModelWorld) → WorldStands self.old.world world
+            → IfErr result (λ status. ShowsDamage status world.store.objects) }
+        ensures whole { IsTrue D.tells → (world : ModelWorld) → WorldStands self.old.world world
+            → AllStand (D.story disk.old).reads self.old.world.store.layout world.store.objects
+            → IfErr result IsUndamaged }
         ensures sound { OnOk result (IsSound self.new.world.store) }
         ensures weight { OnOk result (weight self.new.world ≤ weight self.old.world + 1) }
         ensures reader { self.new.reader ≡ self.old.reader }
         ensures layout { self.new.world.store.layout ≡ self.old.world.store.layout }
-        ensures size { D.size disk.new ≡ D.size disk.old }
+        ensures keeps { Keeps D.Disk disk.old disk.new }
         ensures ends { IfErr result (λ status. EndsStep status (D.faults disk.old) (D.faults disk.new)) }
-        ensures faults { D.faults disk.old ≤ D.faults disk.new }
-        ensures frugal { D.frugal disk.new ≡ D.frugal disk.old }
     {
         let answer = match self.world.step(alloc, disk, step) {
             Ok(answer) => answer,
@@ -164,27 +167,23 @@ impl Run {
         requires number { number ≤ 16 }
         requires weight { weight self.old.world < 1024 }
         requires disk { total_pages self.old.world.store.layout ≤ D.size disk.old }
-        ensures going { IsTrue D.tells → (base : Image) (taken : Option (List ℕ)) (whole : Played)
-            → Going base (D.story disk.old).reads self.old.world number (prepend_known self.old.reader (S.left source.old)) taken (K.taken sink.old) whole
+        ensures going { (start : ModelStore) (first old : Option (List ℕ)) (was : _)
+            → Going D.Disk start self.old.world number first (prepend_known self.old.reader (S.left source.old)) old
+            (K.taken sink.old) was disk.old
             → MatchResult result
             (λ more. MatchBool more
-            (Going base (D.story disk.new).reads self.new.world (number + 1) (prepend_known self.new.reader (S.left source.new)) taken (K.taken sink.new) whole)
-            (Ended Status.Done (K.frugal sink.old) base (D.story disk.new).reads self.old.world.store.layout taken (K.taken sink.new) whole))
-            (λ status. Ended status (K.frugal sink.old) base (D.story disk.new).reads self.old.world.store.layout taken (K.taken sink.new) whole) }
-        ensures whole { IsTrue D.tells → AtWorld (D.story disk.old).reads self.old.world
-            → MatchResult result (λ _. AtWorld (D.story disk.new).reads self.new.world) IsUndamaged }
+            (Going D.Disk start self.new.world (number + 1) first (prepend_known self.new.reader (S.left source.new)) old
+            (K.taken sink.new) was disk.new)
+            (Ended D.Disk self.old.world.store.layout start (K.frugal sink.old) first old (K.taken sink.new) was disk.new Status.Done))
+            (λ status. Ended D.Disk self.old.world.store.layout start (K.frugal sink.old) first old (K.taken sink.new) was disk.new status) }
         ensures sound { OnOk result (IsSound self.new.world.store) }
         ensures weight { OnOk result (weight self.new.world ≤ weight self.old.world + 1) }
         ensures layout { self.new.world.store.layout ≡ self.old.world.store.layout }
-        ensures size { D.size disk.new ≡ D.size disk.old }
-        ensures reason { IfErr result (λ status. HasReason status
-            (record { source = S.faults source.old; sink = K.faults sink.old; disk = D.faults disk.old })
-            (record { source = S.faults source.new; sink = K.faults sink.new; disk = D.faults disk.new })) }
         ensures own { IfErr result IsRunning }
-        ensures later { Later
-            (record { source = S.faults source.old; sink = K.faults sink.old; disk = D.faults disk.old })
-            (record { source = S.faults source.new; sink = K.faults sink.new; disk = D.faults disk.new }) }
-        ensures frugal { K.frugal sink.new ≡ K.frugal sink.old }
+        ensures raised { IfErr result (λ status. IsRaised status
+            (counts_of S.Source K.Sink D.Disk source.old sink.old disk.old)
+            (counts_of S.Source K.Sink D.Disk source.new sink.new disk.new)) }
+        ensures keeps { KeepsEnds S.Source K.Sink D.Disk source.old sink.old disk.old source.new sink.new disk.new }
     {
         match self.read_step(alloc, number, source)? {
             Some(step) => {
@@ -242,20 +241,14 @@ fn run_script<S: Source, K: Sink, D: Disk>(
     disk: &mut D,
 ) -> Result<(), Status>
     requires { total_pages layout ≤ D.size disk.old }
-    ensures ended { IsTrue D.tells → (script : List ℕ) → S.left source.old ≡ Some script
-        → MatchResult result
-        (λ _. Ended Status.Done (K.frugal sink.old) (D.story disk.old).reads (D.story disk.new).reads layout (K.taken sink.old) (K.taken sink.new) (play layout script))
-        (λ status. Ended status (K.frugal sink.old) (D.story disk.old).reads (D.story disk.new).reads layout (K.taken sink.old) (K.taken sink.new) (play layout script)) }
-    ensures whole { IsTrue D.tells → IfErr result IsUndamaged }
-    ensures reason { IfErr result (λ status. HasReason status
-        (record { source = S.faults source.old; sink = K.faults sink.old; disk = D.faults disk.old })
-        (record { source = S.faults source.new; sink = K.faults sink.new; disk = D.faults disk.new })) }
+    ensures ended { MatchResult result
+        (λ _. Ended D.Disk layout empty_store (K.frugal sink.old) (S.left source.old) (K.taken sink.old) (K.taken sink.new) disk.old disk.new Status.Done)
+        (λ status. Ended D.Disk layout empty_store (K.frugal sink.old) (S.left source.old) (K.taken sink.old) (K.taken sink.new) disk.old disk.new status) }
     ensures own { IfErr result IsRunning }
-    ensures later { Later
-        (record { source = S.faults source.old; sink = K.faults sink.old; disk = D.faults disk.old })
-        (record { source = S.faults source.new; sink = K.faults sink.new; disk = D.faults disk.new }) }
-    ensures size { D.size disk.new ≡ D.size disk.old }
-    ensures frugal { K.frugal sink.new ≡ K.frugal sink.old }
+    ensures raised { IfErr result (λ status. IsRaised status
+        (counts_of S.Source K.Sink D.Disk source.old sink.old disk.old)
+        (counts_of S.Source K.Sink D.Disk source.new sink.new disk.new)) }
+    ensures keeps { KeepsEnds S.Source K.Sink D.Disk source.old sink.old disk.old source.new sink.new disk.new }
 {
     let Ok(mut run) = Run::new(alloc, layout) else {
         return Err(Status::OutOfMemory);
@@ -284,19 +277,15 @@ fn fresh<S: Source, K: Sink, D: Disk>(
 ) -> Status
     ensures refused { D.size disk.old < total_pages layout
         → result ≡ Status.Refused (TooSmall (total_pages layout) (D.size disk.old)) }
-    ensures untouched { D.size disk.old < total_pages layout → K.taken sink.new ≡ K.taken sink.old }
     ensures accepted { total_pages layout ≤ D.size disk.old → IsAccepted result }
-    ensures ended { IsTrue D.tells → (script : List ℕ) → S.left source.old ≡ Some script
-        → Ended result (K.frugal sink.old) (D.story disk.old).reads (D.story disk.new).reads layout (K.taken sink.old) (K.taken sink.new) (play layout script) }
-    ensures whole { IsTrue D.tells → IsUndamaged result }
-    ensures reason { HasReason result
-        (record { source = S.faults source.old; sink = K.faults sink.old; disk = D.faults disk.old })
-        (record { source = S.faults source.new; sink = K.faults sink.new; disk = D.faults disk.new }) }
-    ensures later { Later
-        (record { source = S.faults source.old; sink = K.faults sink.old; disk = D.faults disk.old })
-        (record { source = S.faults source.new; sink = K.faults sink.new; disk = D.faults disk.new }) }
-    ensures size { D.size disk.new ≡ D.size disk.old }
-    ensures frugal { K.frugal sink.new ≡ K.frugal sink.old }
+    ensures alone { D.size disk.old < total_pages layout
+        → (source.new ≡ source.old) × (sink.new ≡ sink.old) × (disk.new ≡ disk.old) }
+    ensures ended { total_pages layout ≤ D.size disk.old → Ended D.Disk layout empty_store (K.frugal sink.old) (S.left source.old)
+        (K.taken sink.old) (K.taken sink.new) disk.old disk.new result }
+    ensures raised { IsRaised result
+        (counts_of S.Source K.Sink D.Disk source.old sink.old disk.old)
+        (counts_of S.Source K.Sink D.Disk source.new sink.new disk.new) }
+    ensures keeps { KeepsEnds S.Source K.Sink D.Disk source.old sink.old disk.old source.new sink.new disk.new }
 {
     let need = layout.total();
     let have = disk.pages();
@@ -322,24 +311,15 @@ fn run_words<S: Source, K: Sink, D: Disk>(
     sink: &mut K,
     disk: &mut D,
 ) -> Status
-    ensures usage { (result ≡ Status.Usage) ↔ ((layout : LayoutParts) → IsFresh words.now layout → ⊥) }
-    ensures refused { (layout : LayoutParts) → IsFresh words.now layout → D.size disk.old < total_pages layout
-        → result ≡ Status.Refused (TooSmall (total_pages layout) (D.size disk.old)) }
-    ensures refused_only { (why : StoreRefusal) → result ≡ Status.Refused why
-        → (layout : LayoutParts) × IsFresh words.now layout × (D.size disk.old < total_pages layout)
-        × (why ≡ TooSmall (total_pages layout) (D.size disk.old)) }
-    ensures untouched { IsTurnedAway result → K.taken sink.new ≡ K.taken sink.old }
-    ensures ended { IsTrue D.tells → (layout : LayoutParts) → IsFresh words.now layout → (script : List ℕ) → S.left source.old ≡ Some script
-        → Ended result (K.frugal sink.old) (D.story disk.old).reads (D.story disk.new).reads layout (K.taken sink.old) (K.taken sink.new) (play layout script) }
-    ensures whole { IsTrue D.tells → IsUndamaged result }
-    ensures reason { HasReason result
-        (record { source = S.faults source.old; sink = K.faults sink.old; disk = D.faults disk.old })
-        (record { source = S.faults source.new; sink = K.faults sink.new; disk = D.faults disk.new }) }
-    ensures later { Later
-        (record { source = S.faults source.old; sink = K.faults sink.old; disk = D.faults disk.old })
-        (record { source = S.faults source.new; sink = K.faults sink.new; disk = D.faults disk.new }) }
-    ensures size { D.size disk.new ≡ D.size disk.old }
-    ensures frugal { K.frugal sink.new ≡ K.frugal sink.old }
+    ensures usage { (result ≡ Status.Usage) ↔ IsNoForm words.now }
+    ensures refused { (why : StoreRefusal) → (result ≡ Status.Refused why) ↔ IsTooSmall words.now (D.size disk.old) why }
+    ensures alone { IsTurnedAway result → (source.new ≡ source.old) × (sink.new ≡ sink.old) × (disk.new ≡ disk.old) }
+    ensures ended { EndedBy words.now (λ layout. Ended D.Disk layout empty_store (K.frugal sink.old) (S.left source.old)
+        (K.taken sink.old) (K.taken sink.new) disk.old disk.new result) result }
+    ensures raised { IsRaised result
+        (counts_of S.Source K.Sink D.Disk source.old sink.old disk.old)
+        (counts_of S.Source K.Sink D.Disk source.new sink.new disk.new) }
+    ensures keeps { KeepsEnds S.Source K.Sink D.Disk source.old sink.old disk.old source.new sink.new disk.new }
 {
     match Form::read(words) {
         Some(form) => fresh(alloc, form.layout(), source, sink, disk),
@@ -350,8 +330,7 @@ fn run_words<S: Source, K: Sink, D: Disk>(
 // Writes the closing line, where the sink takes it.
 fn close<K: Sink>(sink: &mut K, status: &Status)
     ensures closed { Closed status.now (K.frugal sink.old) (K.faults sink.old) (K.faults sink.new) (K.taken sink.old) (K.taken sink.new) }
-    ensures faults { K.faults sink.old ≤ K.faults sink.new }
-    ensures frugal { K.frugal sink.new ≡ K.frugal sink.old }
+    ensures keeps { KeepsEnd K.faults K.frugal sink.old sink.new }
 {
     let _ = print(sink, status.closing().as_slice());
 }
@@ -369,41 +348,7 @@ pub fn run_alone<S: Source, K: Sink, D: Disk>(
     sink: &mut K,
     mut disk: D,
 ) -> (Status, D)
-    // Usage exactly where the words are no form.
-    ensures usage { (result.0 ≡ Status.Usage) ↔ ((layout : LayoutParts) → IsFresh words.now layout → ⊥) }
-
-    // Refused exactly where the layout exceeds the disk.
-    ensures refused { (layout : LayoutParts) → IsFresh words.now layout → D.size disk < total_pages layout
-        → result.0 ≡ Status.Refused (TooSmall (total_pages layout) (D.size disk)) }
-    ensures refused_only { (why : StoreRefusal) → result.0 ≡ Status.Refused why
-        → (layout : LayoutParts) × IsFresh words.now layout × (D.size disk < total_pages layout)
-        × (why ≡ TooSmall (total_pages layout) (D.size disk)) }
-
-    // Damage never, where the disk tells its pages.
-    ensures whole { IsTrue D.tells → IsUndamaged result.0 }
-
-    // A fault only where the count of that end rose, and damage only with two values that differ.
-    ensures reason { HasReason result.0
-        (record { source = S.faults source.old; sink = K.faults sink.old; disk = D.faults disk })
-        (record { source = S.faults source.new; sink = K.faults sink.new; disk = D.faults result.1 }) }
-
-    // What the sink took and what the disk has, over a known script: the play's text up to where the run ended, and then
-    // the closing line; each object that the play leaves stands in the data area, and no page of the disk has changed but
-    // those that its committed contents took there.
-    ensures text { IsTrue D.tells → (layout : LayoutParts) → IsFresh words.now layout → (script : List ℕ) → S.left source.old ≡ Some script
-        → (taken : Option (List ℕ))
-        × Ended result.0 (K.frugal sink.old) (D.story disk).reads (D.story result.1).reads layout (K.taken sink.old) taken (play layout script)
-        × Closed result.0 (K.frugal sink.old) (K.faults sink.old) (K.faults sink.new) taken (K.taken sink.new) }
-
-    // Where nothing was run, the closing line alone.
-    ensures turned_away { IsTurnedAway result.0
-        → Closed result.0 (K.frugal sink.old) (K.faults sink.old) (K.faults sink.new) (K.taken sink.old) (K.taken sink.new) }
-
-    ensures later { Later
-        (record { source = S.faults source.old; sink = K.faults sink.old; disk = D.faults disk })
-        (record { source = S.faults source.new; sink = K.faults sink.new; disk = D.faults result.1 }) }
-    ensures size { D.size result.1 ≡ D.size disk }
-    ensures frugal { K.frugal sink.new ≡ K.frugal sink.old }
+    ensures { WholeRun S.Source K.Sink D.Disk words.now source.old sink.old disk result.0 source.new sink.new result.1 }
 {
     let status = run_words(alloc, words, source, sink, &mut disk);
     close(sink, &status);

@@ -12,15 +12,14 @@ ghost use Rattle.blob_script.specs.Contents.{content_bytes};
 
 use crate::answer::AnswerLine;
 use crate::key_map::KeyMap;
-use crate::write::Place;
-use blob_base::{Bytes, Key, OutOfMemory};
+use crate::write::Placement;
+use blob_base::{Bytes, Key, OutOfMemory, PAGE_BYTES};
 use blob_script::Content;
 use blob_state::{BlobState, Draft};
-use disk_model::PAGE_BYTES;
 use std::alloc::Global;
 use std::marker::Model;
 use std::mem;
-use tier_table::MAX_SIZE;
+use tier_table::{MAX_EXTENTS, MAX_SIZE};
 
 // How many keys a transaction may touch.
 const MAX_KEYS: usize = 16;
@@ -70,10 +69,9 @@ impl Change {
     /// How many extents its content has.
     pub(crate) fn extents(&self) -> u32
         ensures count { result ≡ extent_count (length (content_of self.now)) }
-        ensures most { result ≤ 127 }
+        ensures most { result ≤ MAX_EXTENTS }
     {
-        // The rules of the draft bound their number.
-        let _size = self.draft.size();
+        self.draft.rules();
         self.draft.marks().len() as u32
     }
 
@@ -89,13 +87,12 @@ impl Change {
         ensures value { result.now ≡ content_of self.now }
         ensures most { length result.now ≤ greatest_size }
     {
-        // The rules of the draft bound its size.
-        let _size = self.draft.size();
+        self.draft.rules();
         self.content.as_slice()
     }
 
     /// The state of its content at this place, written by the entry of this number.
-    pub(crate) fn state_at(&self, place: &Place, number: u64) -> BlobState
+    pub(crate) fn state_at(&self, place: &Placement, number: u64) -> BlobState
         requires fits { Fits (length (content_of self.now)) place.now }
         requires number { IsNumber number }
         ensures number { result.born ≡ number }
@@ -238,7 +235,9 @@ impl Transaction {
     {
         match self.read(key, now)? {
             Reading::TooMany => Ok(Got::Line {
-                line: AnswerLine::TooMany { keys: 17 },
+                line: AnswerLine::TooMany {
+                    keys: MAX_KEYS as u32 + 1,
+                },
             }),
             Reading::Stale => Ok(Got::Line {
                 line: AnswerLine::Stale { now },
@@ -269,7 +268,9 @@ impl Transaction {
         ensures err { OnErr result (self.new ≡ self.old) }
     {
         if self.is_one_too_many(&key) {
-            return Ok(AnswerLine::TooMany { keys: 17 });
+            return Ok(AnswerLine::TooMany {
+                keys: MAX_KEYS as u32 + 1,
+            });
         }
         let size = content.size();
         if size > MAX_SIZE {

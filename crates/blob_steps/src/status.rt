@@ -34,8 +34,9 @@ pub enum Status {
     OutOfMemory,
     /// The words are no form.
     Usage,
-    /// The pages of this key's content don't lead to what its state keeps. Its links are numbered: one for each extent,
-    /// and the last for the digest. This link is the first that fails: the state keeps `want`, and the pages give `got`.
+    /// The bytes read for this key's content don't lead to what its state keeps. Its links are numbered: one for each
+    /// extent, and the last for the digest. This link is the first that fails: the state keeps `want`, and the bytes give
+    /// `got`.
     Damaged {
         key: Key,
         link: u32,

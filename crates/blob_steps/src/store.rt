@@ -6,34 +6,39 @@ ghost use Rattle.std.specs.List.Sorted.{IsPermutation};
 ghost use Rattle.std.specs.FinMap as map;
 ghost use Rattle.blob_base.specs.Faults.{Rose};
 ghost use Rattle.blob_base.specs.declared.faults.IoFault.TheVariants.{Failed};
-ghost use Rattle.store_model.specs.Disk.{SameOff};
-ghost use Rattle.store_model.specs.Group.{judge_in, reply_line, states_bytes, store_after};
-ghost use Rattle.store_model.specs.Holds.{Holds, place_of};
+ghost use Rattle.disk_model.specs.Disks.{Keeps, OnlyReads, OnlyWrites};
+ghost use Rattle.store_model.specs.Cost.{Reads};
+ghost use Rattle.store_model.specs.Disk.{Took};
+ghost use Rattle.store_model.specs.Group.{states_bytes};
+ghost use Rattle.store_model.specs.Holds.{Holds, pages_across, place_of};
 ghost use Rattle.store_model.specs.Key.{key_order};
 ghost use Rattle.store_model.specs.Layout.{data_page, data_pages, total_pages};
 ghost use Rattle.store_model.specs.Space.{AreBlocks, IsOwnedPage, blocks_of, owners};
-ghost use Rattle.store_model.specs.State.{IsNumber, IsState, Tells};
+ghost use Rattle.store_model.specs.Standing.{AllStand, SameObjects};
+ghost use Rattle.store_model.specs.State.{IsNumber};
 ghost use Rattle.store_model.specs.Store.{Object, Store as ModelStore};
-ghost use Rattle.store_model.specs.Transaction.{Transaction as ModelTransaction, content_of};
+ghost use Rattle.store_model.specs.Transaction.{Transaction as ModelTransaction};
+ghost use Rattle.store_model.specs.Tuple.{greatest_tuple};
+ghost use Rattle.store_model.specs.Verify.{LeadsTo, Verifies};
 ghost use Rattle.relation.specs.Parts.{encoded_by, owned_by};
 ghost use Rattle.blob_steps.specs.Answers.{model_line};
 ghost use Rattle.blob_steps.specs.Places.{blocks_by, changes_of, places_of};
 ghost use Rattle.blob_steps.specs.Sessions.{show_of};
-ghost use Rattle.blob_steps.specs.Stores.{IsSound, Replied, SameObjects, StoreStands, object_of, objects_with, old_blocks, old_bytes, replaced_bytes, room_line, write_bytes};
-ghost use Rattle.blob_steps.specs.Faults.{IsStepFault, IsWhole};
+ghost use Rattle.blob_steps.specs.Stores.{IsSound, Replied, StoreStands, object_of, objects_with, old_blocks, old_bytes, replaced_bytes, room_line, write_bytes, write_pages};
+ghost use Rattle.blob_steps.specs.Faults.{DamageOf, FailsOn, IsRaised, IsUndamagedFault, ShowsDamage};
 ghost use Rattle.store_model.specs.Answer.{Value};
 
 use crate::answer::AnswerLine;
 use crate::fault::StepFault;
 use crate::key_map::KeyMap;
-use crate::places::{PlaceFault, give_back_all, take_places};
+use crate::places::{TakeFault, give_back_all, take_places};
 use crate::session::{Change, Look};
 use crate::write::Write;
-use blob_base::{Bytes, IoFault, Key, OutOfMemory, Owned};
+use blob_base::{Bytes, IoFault, Key, OutOfMemory, Owned, PAGE_BYTES};
 use blob_state::BlobState;
-use disk_model::{Disk, Layout, PAGE_BYTES};
+use disk_model::{Disk, Layout};
 use extent_alloc::{BuildFault, Space};
-use extent_io::{Verdict, gather, pour, verify};
+use extent_io::{Verdict, check, gather, pour};
 use relation::Relation;
 use std::alloc::Global;
 
@@ -67,15 +72,15 @@ fn growth_of(relation: &Relation, writes: &[Write]) -> Growth
     };
     'added: for i in 0..writes.len() {
         growth.added += writes[i].bytes();
-        growth.replaced += stored_bytes(relation, &writes[i].key);
+        growth.replaced += old_bytes(relation, &writes[i].key);
     }
     growth
 }
 
 // How many bytes the state of a key takes where it is stored; 0 where there is none.
-fn stored_bytes(relation: &Relation, key: &Key) -> u64
+fn old_bytes(relation: &Relation, key: &Key) -> u64
     ensures value { result ≡ old_bytes key.now (map.get relation.now.states key.now) }
-    ensures most { result ≤ 4717 }
+    ensures most { result ≤ greatest_tuple }
 {
     match relation.get(key) {
         Some(state) => state.encoded(key) as u64,
@@ -125,18 +130,20 @@ impl Store {
         requires sound { IsSound self.now }
         requires disk { total_pages self.now.layout ≤ D.size disk.old }
         ensures line { IsTrue D.tells → (objects : map.FinMap key_order Object)
-            → SameObjects (D.story disk.old).reads (data_page self.now.layout) self.now.relation.states objects
-            → MatchResult result
-            (λ line. model_line line ≡ show_of look (option_map (λ object. object.content) (map.get objects key.now)))
-            IsWhole }
-        ensures pages { IsTrue D.tells → (D.story disk.new).reads ≡ (D.story disk.old).reads }
-        ensures size { D.size disk.new ≡ D.size disk.old }
-        ensures faults { D.faults disk.old ≤ D.faults disk.new }
-        ensures fault { IfErr result (IsStepFault (D.faults disk.old) (D.faults disk.new)) }
-        ensures frugal { D.frugal disk.new ≡ D.frugal disk.old }
+            → SameObjects self.now.relation.states objects
+            → AllStand (D.story disk.old).reads self.now.layout objects
+            → IfOk result (λ line.
+            model_line line ≡ show_of look (option_map (λ object. object.content) (map.get objects key.now))) }
+        ensures damage { (objects : map.FinMap key_order Object) → SameObjects self.now.relation.states objects
+            → IfErr result (ShowsDamage objects) }
+        ensures whole { IsTrue D.tells → (objects : map.FinMap key_order Object)
+            → SameObjects self.now.relation.states objects
+            → AllStand (D.story disk.old).reads self.now.layout objects → IfErr result IsUndamagedFault }
+        ensures only_reads { OnlyReads D.Disk disk.old disk.new }
+        ensures reads { IsTrue D.tells → OnOk result (Reads (D.calls disk.old) (D.calls disk.new)) }
+        ensures raised { IfErr result (IsRaised (D.faults disk.old) (D.faults disk.new)) }
     {
-        // The rules of the space bound where the blocks are.
-        let _pages = self.space.pages();
+        self.space.rules();
         match self.relation.get(key) {
             Some(state) => match look {
                 Look::Get => read_value(alloc, disk, self.layout, key, state),
@@ -186,25 +193,27 @@ impl Store {
         requires disk { total_pages self.old.layout ≤ D.size disk.old }
         requires within { AreBlocks (data_pages self.old.layout) (blocks_of write.now.place) }
         requires apart { (page : ℕ) → owners (blocks_of write.now.place) page + owners (owned_by self.old.relation.states) page ≤ 1 }
-        ensures objects { IsTrue D.tells → OnOk result ((objects : map.FinMap key_order Object)
-            → SameObjects (D.story disk.old).reads (data_page self.old.layout) self.old.relation.states objects
-            → SameObjects (D.story disk.new).reads (data_page self.old.layout) self.new.relation.states
+        ensures objects { OnOk result ((objects : map.FinMap key_order Object) → SameObjects self.old.relation.states objects
+            → SameObjects self.new.relation.states (map.insert objects write.now.key (object_of number write.now))) }
+        ensures stand { IsTrue D.tells → OnOk result ((objects : map.FinMap key_order Object)
+            → SameObjects self.old.relation.states objects
+            → AllStand (D.story disk.old).reads self.old.layout objects
+            → AllStand (D.story disk.new).reads self.old.layout
             (map.insert objects write.now.key (object_of number write.now))) }
-        ensures others { IsTrue D.tells → SameOff (IsOwnedPage self.old.layout (blocks_of write.now.place)) (D.story disk.old).reads (D.story disk.new).reads }
+        ensures wrote { OnlyWrites D.Disk (IsOwnedPage self.old.layout (blocks_of write.now.place)) disk.old disk.new }
+        ensures writes { IsTrue D.tells → OnOk result (Took 0 (write_pages write.now) 0 (D.calls disk.old) (D.calls disk.new)) }
         ensures replaced { OnOk result (replaced.new ≡ replaced.old ++ old_blocks (map.get self.old.relation.states write.now.key)) }
         ensures owned { OnOk result (IsPermutation
             (old_blocks (map.get self.old.relation.states write.now.key) ++ owned_by self.new.relation.states)
             (blocks_of write.now.place ++ owned_by self.old.relation.states)) }
         ensures spare { OnOk result (self.old.relation.spare ≤ self.new.relation.spare + 1) }
-        ensures bytes { OnOk result (encoded_by self.new.relation.states ≤ encoded_by self.old.relation.states + 4717) }
+        ensures bytes { OnOk result (encoded_by self.new.relation.states ≤ encoded_by self.old.relation.states + greatest_tuple) }
         ensures space { self.new.space ≡ self.old.space }
         ensures layout { self.new.layout ≡ self.old.layout }
         ensures last { self.new.last ≡ self.old.last }
-        ensures size { D.size disk.new ≡ D.size disk.old }
-        ensures faults { D.faults disk.old ≤ D.faults disk.new }
         ensures failed { IsErrOf result Failed → Rose (D.faults disk.old) (D.faults disk.new) }
-        ensures frugal { D.frugal disk.new ≡ D.frugal disk.old }
     {
+        write.rules();
         let state = write.change.state_at(&write.place, number);
         pour(disk, self.layout, &state, 0, write.change.content())?;
         if let Some(old) = self.relation.get(&write.key) {
@@ -230,21 +239,20 @@ impl Store {
         requires disk { total_pages self.old.layout ≤ D.size disk.old }
         ensures number { IfOk result (λ number. number ≡ self.old.last + 1) }
         ensures last { OnOk result (self.new.last ≡ self.old.last + 1) }
-        ensures objects { IsTrue D.tells → OnOk result ((objects : map.FinMap key_order Object)
-            → SameObjects (D.story disk.old).reads (data_page self.old.layout) self.old.relation.states objects
-            → SameObjects (D.story disk.new).reads (data_page self.old.layout) self.new.relation.states
-            (objects_with (self.old.last + 1) objects writes.now)) }
-        ensures others { IsTrue D.tells → OnOk result
-            (SameOff (IsOwnedPage self.old.layout (blocks_by (places_of writes.now))) (D.story disk.old).reads (D.story disk.new).reads) }
+        ensures objects { OnOk result ((objects : map.FinMap key_order Object) → SameObjects self.old.relation.states objects
+            → SameObjects self.new.relation.states (objects_with (self.old.last + 1) objects writes.now)) }
+        ensures stand { IsTrue D.tells → OnOk result ((objects : map.FinMap key_order Object)
+            → SameObjects self.old.relation.states objects
+            → AllStand (D.story disk.old).reads self.old.layout objects
+            → AllStand (D.story disk.new).reads self.old.layout (objects_with (self.old.last + 1) objects writes.now)) }
+        ensures wrote { OnlyWrites D.Disk (IsOwnedPage self.old.layout (blocks_by (places_of writes.now))) disk.old disk.new }
+        ensures calls { IsTrue D.tells → OnOk result
+            (Took 0 (sum_by write_pages writes.now) 1 (D.calls disk.old) (D.calls disk.new)) }
         ensures sound { OnOk result (IsSound self.new) }
         ensures layout { self.new.layout ≡ self.old.layout }
-        ensures size { D.size disk.new ≡ D.size disk.old }
-        ensures faults { D.faults disk.old ≤ D.faults disk.new }
         ensures failed { IsErrOf result Failed → Rose (D.faults disk.old) (D.faults disk.new) }
-        ensures frugal { D.frugal disk.new ≡ D.frugal disk.old }
     {
-        // The rules of the space: its blocks are apart, and within the data area.
-        let _pages = self.space.pages();
+        self.space.rules();
         let number = self.last + 1;
         let mut replaced = Owned::new(alloc);
         self.relation.reserve(alloc, writes.len())?;
@@ -271,25 +279,23 @@ impl Store {
         requires few { map.len changes ≤ 1024 }
         requires last { self.old.last < 1024 }
         requires disk { total_pages self.old.layout ≤ D.size disk.old }
-        ensures replied { IsTrue D.tells → (store : ModelStore) (transaction : ModelTransaction) → transaction.changes ≡ changes
-            → StoreStands (D.story disk.old).reads self.old store
-            → IfOk result (λ line. Replied (D.story disk.old).reads (D.story disk.new).reads self.new store transaction (model_line line)) }
+        ensures replied { (store : ModelStore) (transaction : ModelTransaction) → transaction.changes ≡ changes
+            → StoreStands self.old store
+            → IfOk result (λ line. Replied D.Disk disk.old disk.new self.new store transaction (model_line line)) }
         ensures sound { OnOk result (IsSound self.new) }
         ensures last { OnOk result (self.new.last ≤ self.old.last + 1) }
         ensures layout { self.new.layout ≡ self.old.layout }
-        ensures size { D.size disk.new ≡ D.size disk.old }
-        ensures faults { D.faults disk.old ≤ D.faults disk.new }
+        ensures keeps { Keeps D.Disk disk.old disk.new }
         ensures failed { IsErrOf result Failed → Rose (D.faults disk.old) (D.faults disk.new) }
-        ensures frugal { D.frugal disk.new ≡ D.frugal disk.old }
     {
         let mut taken = Owned::new(alloc);
         let writes = match take_places(alloc, &mut self.space, changes, &mut taken) {
             Ok(writes) => writes,
-            Err(PlaceFault::NoSpace { key, tier }) => {
+            Err(TakeFault::NoSpace { key, tier }) => {
                 give_back_all(&mut self.space, &taken);
                 return Ok(AnswerLine::NoSpace { key, tier });
             }
-            Err(PlaceFault::OutOfMemory) => return Err(IoFault::OutOfMemory),
+            Err(TakeFault::OutOfMemory) => return Err(IoFault::OutOfMemory),
         };
         match self.no_room(writes.as_slice()) {
             Some(line) => {
@@ -304,7 +310,8 @@ impl Store {
     }
 }
 
-// Reads the content of a key's state and checks each link of it, and shows it as an answer.
+// Reads the content of a key's state, each page once, and shows it as an answer where each link of the state holds over what
+// was read.
 fn read_value<D: Disk>(
     alloc: Global,
     disk: &mut D,
@@ -314,25 +321,27 @@ fn read_value<D: Disk>(
 ) -> Result<AnswerLine, StepFault>
     requires disk { total_pages layout ≤ D.size disk.old }
     requires within { AreBlocks (data_pages layout) (blocks_of (place_of state.now)) }
-    ensures line { IsTrue D.tells → (content : List ℕ) → Tells state.now content
-        → Holds (D.story disk.old).reads (data_page layout) (place_of state.now) content
-        → MatchResult result (λ line. model_line line ≡ Value content) IsWhole }
-    ensures pages { IsTrue D.tells → (D.story disk.new).reads ≡ (D.story disk.old).reads }
-    ensures size { D.size disk.new ≡ D.size disk.old }
-    ensures faults { D.faults disk.old ≤ D.faults disk.new }
-    ensures fault { IfErr result (IsStepFault (D.faults disk.old) (D.faults disk.new)) }
-    ensures frugal { D.frugal disk.new ≡ D.frugal disk.old }
+    // Whatever the disk tells, what is shown was verified: it leads over the state's links to its digest.
+    ensures shown { IfOk result (λ line. (content : List ℕ) × (model_line line ≡ Value content) × LeadsTo content state.now) }
+    ensures damage { IfErr result (DamageOf key.now state.now) }
+
+    // Where it tells its pages, that is what they hold, and so it is shown exactly where the state verifies there.
+    ensures line { IsTrue D.tells → (content : List ℕ) → Holds (D.story disk.old).reads (data_page layout) state.now content
+        → IfOk result (λ line. model_line line ≡ Value content) }
+    ensures verifies { IsTrue D.tells → OnOk result (Verifies (D.story disk.old).reads (data_page layout) state.now) }
+    ensures fails { IsTrue D.tells → IfErr result (FailsOn (D.story disk.old).reads (data_page layout) state.now) }
+    ensures only_reads { OnlyReads D.Disk disk.old disk.new }
+    ensures reads { IsTrue D.tells → OnOk result
+        (Took (pages_across 0 state.now.size) 0 0 (D.calls disk.old) (D.calls disk.new)) }
+    ensures raised { IfErr result (IsRaised (D.faults disk.old) (D.faults disk.new)) }
 {
-    // The rules of the state are known from its size on.
-    let size = state.size() as usize;
-    match verify(disk, layout, state)? {
-        Verdict::Whole => {
-            let mut content = vec![in alloc; 0; size]?;
-            gather(disk, layout, state, 0, &mut content)?;
-            Ok(AnswerLine::Value {
-                content: Bytes::from_vec(content),
-            })
-        }
+    state.rules();
+    let mut content = vec![in alloc; 0; state.size() as usize]?;
+    gather(disk, layout, state, 0, &mut content)?;
+    match check(state, &content) {
+        Verdict::Whole => Ok(AnswerLine::Value {
+            content: Bytes::from_vec(content),
+        }),
         Verdict::Damaged { link, want, got } => Err(StepFault::Damaged {
             key: key.copy(),
             link,

@@ -1,9 +1,14 @@
 // The world of a run: its store and its session.
 
-ghost use Rattle.std.specs.Prelude.{◌≡◌, ℕ, ◌+◌, ◌<◌, ◌≤◌, IsTrue, IfOk, IfErr, OnOk, MatchResult};
-ghost use Rattle.store_model.specs.Disk.{Image};
+ghost use Rattle.std.specs.Prelude.{◌≡◌, ℕ, ◌+◌, ◌<◌, ◌≤◌, IsTrue, IfOk, IfErr, OnOk};
+ghost use Rattle.disk_model.specs.Disks.{Keeps};
+ghost use Rattle.store_model.specs.Answer.{answer_text};
+ghost use Rattle.store_model.specs.Group.{World as ModelWorld, lead, world_over};
 ghost use Rattle.store_model.specs.Layout.{total_pages};
-ghost use Rattle.store_model.specs.Group.{World as ModelWorld, new_world};
+ghost use Rattle.store_model.specs.Play.{step_play};
+ghost use Rattle.store_model.specs.Script.{Session as ModelSession};
+ghost use Rattle.store_model.specs.Standing.{AllStand};
+ghost use Rattle.store_model.specs.Store.{empty_store};
 
 use crate::answer::{Answer, AnswerLine};
 use crate::fault::StepFault;
@@ -26,8 +31,8 @@ impl World {
     ghost use Rattle.blob_steps.specs.Answers.{model_line, text_of};
     ghost use Rattle.blob_steps.specs.Words.{model_action, model_step};
     ghost use Rattle.blob_steps.specs.Sessions.{look_action};
-    ghost use Rattle.blob_steps.specs.Faults.{IsStepFault, IsWhole};
-    ghost use Rattle.blob_steps.specs.Steps.{Stands, IsTurn, IsLead, IsDone, IsPlayed, weight};
+    ghost use Rattle.blob_steps.specs.Faults.{IsRaised, IsUndamagedFault, ShowsDamage};
+    ghost use Rattle.blob_steps.specs.Steps.{CameTo, IsPlayed, WorldStands, weight};
     ghost use Rattle.blob_steps.specs.Stores.{IsSound};
 
     /// An empty store, and no transaction.
@@ -35,7 +40,7 @@ impl World {
         ensures sound { IfOk result (λ world. IsSound world.store) }
         ensures layout { IfOk result (λ world. world.store.layout ≡ layout) }
         ensures weight { IfOk result (λ world. weight world ≡ 0) }
-        ensures stands { IfOk result (λ world. (base : Image) → Stands base base world new_world) }
+        ensures stands { IfOk result (λ world. WorldStands world (world_over empty_store)) }
     {
         Ok(World {
             store: Store::new(alloc, layout)?,
@@ -54,15 +59,17 @@ impl World {
         requires played { IsPlayed (model_step step) }
         requires weight { weight self.old < 1024 }
         requires disk { total_pages self.old.store.layout ≤ D.size disk.old }
-        ensures step { IsTrue D.tells → (base : Image) (world : ModelWorld) → Stands base (D.story disk.old).reads self.old world
-            → MatchResult result (λ answer. IsDone base (D.story disk.new).reads world (model_step step) (text_of answer) self.new) IsWhole }
+        ensures step { (world : ModelWorld) → WorldStands self.old world
+            → IfOk result (λ answer. CameTo D.Disk world (step_play self.new.store.layout world (model_step step))
+            (text_of answer) self.new disk.old disk.new) }
+        ensures damage { (world : ModelWorld) → WorldStands self.old world → IfErr result (ShowsDamage world.store.objects) }
+        ensures whole { IsTrue D.tells → (world : ModelWorld) → WorldStands self.old world
+            → AllStand (D.story disk.old).reads self.old.store.layout world.store.objects → IfErr result IsUndamagedFault }
         ensures weight { OnOk result (weight self.new ≤ weight self.old + 1) }
         ensures sound { OnOk result (IsSound self.new.store) }
         ensures layout { self.new.store.layout ≡ self.old.store.layout }
-        ensures size { D.size disk.new ≡ D.size disk.old }
-        ensures faults { D.faults disk.old ≤ D.faults disk.new }
-        ensures fault { IfErr result (IsStepFault (D.faults disk.old) (D.faults disk.new)) }
-        ensures frugal { D.frugal disk.new ≡ D.frugal disk.old }
+        ensures keeps { Keeps D.Disk disk.old disk.new }
+        ensures raised { IfErr result (IsRaised (D.faults disk.old) (D.faults disk.new)) }
     {
         match step {
             Step::Session { session, action } => {
@@ -82,15 +89,18 @@ impl World {
     ) -> Result<AnswerLine, StepFault>
         requires sound { IsSound self.old.store }
         requires disk { total_pages self.old.store.layout ≤ D.size disk.old }
-        ensures turn { IsTrue D.tells → (base : Image) (world : ModelWorld) → Stands base (D.story disk.old).reads self.old world
-            → MatchResult result (λ line. IsTurn base (D.story disk.new).reads world (model_action action) (model_line line) self.new) IsWhole }
+        ensures turn { (world : ModelWorld) → WorldStands self.old world
+            → IfOk result (λ line. CameTo D.Disk world
+            (step_play self.new.store.layout world (ModelSession 0 (model_action action)))
+            (answer_text 0 (model_line line)) self.new disk.old disk.new) }
+        ensures damage { (world : ModelWorld) → WorldStands self.old world → IfErr result (ShowsDamage world.store.objects) }
+        ensures whole { IsTrue D.tells → (world : ModelWorld) → WorldStands self.old world
+            → AllStand (D.story disk.old).reads self.old.store.layout world.store.objects → IfErr result IsUndamagedFault }
         ensures weight { OnOk result (weight self.new ≤ weight self.old + 1) }
         ensures sound { OnOk result (IsSound self.new.store) }
         ensures layout { self.new.store.layout ≡ self.old.store.layout }
-        ensures size { D.size disk.new ≡ D.size disk.old }
-        ensures faults { D.faults disk.old ≤ D.faults disk.new }
-        ensures fault { IfErr result (IsStepFault (D.faults disk.old) (D.faults disk.new)) }
-        ensures frugal { D.frugal disk.new ≡ D.frugal disk.old }
+        ensures keeps { Keeps D.Disk disk.old disk.new }
+        ensures raised { IfErr result (IsRaised (D.faults disk.old) (D.faults disk.new)) }
     {
         match action {
             Action::Begin => Ok(self.session.begin(alloc)),
@@ -111,15 +121,18 @@ impl World {
     ) -> Result<AnswerLine, StepFault>
         requires sound { IsSound self.old.store }
         requires disk { total_pages self.old.store.layout ≤ D.size disk.old }
-        ensures turn { IsTrue D.tells → (base : Image) (world : ModelWorld) → Stands base (D.story disk.old).reads self.old world
-            → MatchResult result (λ line. IsTurn base (D.story disk.new).reads world (look_action look key.now) (model_line line) self.new) IsWhole }
+        ensures turn { (world : ModelWorld) → WorldStands self.old world
+            → IfOk result (λ line. CameTo D.Disk world
+            (step_play self.new.store.layout world (ModelSession 0 (look_action look key.now)))
+            (answer_text 0 (model_line line)) self.new disk.old disk.new) }
+        ensures damage { (world : ModelWorld) → WorldStands self.old world → IfErr result (ShowsDamage world.store.objects) }
+        ensures whole { IsTrue D.tells → (world : ModelWorld) → WorldStands self.old world
+            → AllStand (D.story disk.old).reads self.old.store.layout world.store.objects → IfErr result IsUndamagedFault }
         ensures weight { OnOk result (weight self.new ≤ weight self.old + 1) }
         ensures sound { OnOk result (IsSound self.new.store) }
         ensures layout { self.new.store.layout ≡ self.old.store.layout }
-        ensures size { D.size disk.new ≡ D.size disk.old }
-        ensures faults { D.faults disk.old ≤ D.faults disk.new }
-        ensures fault { IfErr result (IsStepFault (D.faults disk.old) (D.faults disk.new)) }
-        ensures frugal { D.frugal disk.new ≡ D.frugal disk.old }
+        ensures keeps { Keeps D.Disk disk.old disk.new }
+        ensures raised { IfErr result (IsRaised (D.faults disk.old) (D.faults disk.new)) }
     {
         let now = self.store.number(key);
         match self.session.look(alloc, look, key, now)? {
@@ -133,15 +146,17 @@ impl World {
         requires sound { IsSound self.old.store }
         requires weight { weight self.old < 1024 }
         requires disk { total_pages self.old.store.layout ≤ D.size disk.old }
-        ensures lead { IsTrue D.tells → (base : Image) (world : ModelWorld) → Stands base (D.story disk.old).reads self.old world
-            → MatchResult result (λ answer. IsLead base (D.story disk.new).reads world answer self.new) IsWhole }
+        ensures lead { (world : ModelWorld) → WorldStands self.old world
+            → IfOk result (λ answer. CameTo D.Disk world (lead self.new.store.layout world) (text_of answer) self.new
+            disk.old disk.new) }
+        ensures damage { (world : ModelWorld) → WorldStands self.old world → IfErr result (ShowsDamage world.store.objects) }
+        ensures whole { IsTrue D.tells → (world : ModelWorld) → WorldStands self.old world
+            → AllStand (D.story disk.old).reads self.old.store.layout world.store.objects → IfErr result IsUndamagedFault }
         ensures weight { OnOk result (weight self.new ≤ weight self.old + 1) }
         ensures sound { OnOk result (IsSound self.new.store) }
         ensures layout { self.new.store.layout ≡ self.old.store.layout }
-        ensures size { D.size disk.new ≡ D.size disk.old }
-        ensures faults { D.faults disk.old ≤ D.faults disk.new }
-        ensures fault { IfErr result (IsStepFault (D.faults disk.old) (D.faults disk.new)) }
-        ensures frugal { D.frugal disk.new ≡ D.frugal disk.old }
+        ensures keeps { Keeps D.Disk disk.old disk.new }
+        ensures raised { IfErr result (IsRaised (D.faults disk.old) (D.faults disk.new)) }
     {
         match mem::replace(&mut self.session, Session::Free) {
             Session::Waiting { transaction } => {

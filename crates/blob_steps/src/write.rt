@@ -7,17 +7,19 @@ ghost use Rattle.blob_steps.specs.Fitting.{Fits};
 use crate::session::Change;
 use arrayvec::ArrayVec;
 use blob_base::Key;
+use blob_state::stored_bytes;
 use std::marker::Model;
+use tier_table::MAX_EXTENTS;
 
 /// Where a content lies: the heads of its extents, and the page of its tail, where it has one.
 #[derive(Drop)]
-pub(crate) struct Place {
-    pub(crate) heads: ArrayVec<u32, 127>,
+pub(crate) struct Placement {
+    pub(crate) heads: ArrayVec<u32, MAX_EXTENTS>,
     pub(crate) tail: Option<u32>,
 }
 
-impl Model for Place {
-    ghost use Rattle.store_model.specs.Store.{Place as Parts};
+impl Model for Placement {
+    ghost use Rattle.store_model.specs.Store.{Placement as Parts};
 
     ghost Value = { Parts };
 
@@ -29,20 +31,27 @@ impl Model for Place {
 pub(crate) struct Write {
     pub(crate) key: Key,
     pub(crate) change: Change,
-    pub(crate) place: Place,
+    pub(crate) place: Placement,
     ghost fits: { Fits (length (content_of change)) place },
 }
 
 impl Write {
     ghost use Rattle.std.specs.Prelude.{◌≤◌};
+    ghost use Rattle.store_model.specs.Tuple.{greatest_tuple};
     ghost use Rattle.blob_steps.specs.Stores.{write_bytes};
 
     /// How many bytes its state takes where it is stored with its key.
     pub(crate) fn bytes(&self) -> u64
         ensures value { result ≡ write_bytes self.now }
-        ensures most { result ≤ 4717 }
+        ensures most { result ≤ greatest_tuple }
     {
-        let tail = if self.place.tail.is_some() { 4 } else { 0 };
-        77 + self.key.text().len() as u64 + 36 * self.place.heads.len() as u64 + tail
+        stored_bytes(&self.key, self.place.heads.len(), self.place.tail) as u64
+    }
+
+    /// What is true of each write: its state takes few bytes.
+    pub(crate) fn rules(&self)
+        ensures { write_bytes self.now ≤ greatest_tuple }
+    {
+        self.bytes();
     }
 }

@@ -1,5 +1,5 @@
 -- What a disk over a file shows, and what it doesn't tell.
-use Rattle.std.specs.Prelude.{◌≡◌, ℕ, List, Option, Some, IfSome}
+use Rattle.std.specs.Prelude.{◌≡◌, ℕ, Bool, true, List, Option, Some, IfSome}
 use Rattle.std.specs.Io.KnownBytes.{Appends, Consumes, Keeps}
 use Rattle.disk_file.specs.declared.file.FileDisk.{FileDisk}
 use Rattle.store_model.specs.Disk.{Calls}
@@ -11,6 +11,10 @@ disk_size disk = disk.size
 -- how often it has failed
 abbrev pub disk_faults : {F : Type 0} → FileDisk F → ℕ
 disk_faults disk = disk.faults
+
+-- it never finds no memory
+abbrev pub disk_frugal : {F : Type 0} → FileDisk F → Bool
+disk_frugal disk = true
 
 -- It doesn't tell its calls, so these are none that it counted.
 abbrev pub no_calls : Calls

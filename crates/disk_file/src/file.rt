@@ -5,12 +5,14 @@ ghost use Rattle.std.specs.Io.KnownBytes.{Keeps};
 ghost use Rattle.std.specs.Io.Seek.{MovesTo};
 ghost use Rattle.blob_base.specs.Faults.{HasCause};
 ghost use Rattle.blob_base.specs.declared.faults.IoFault.TheVariants.{Failed};
-ghost use Rattle.disk_file.specs.File.{disk_size, disk_faults, no_calls, ReadsAt, WritesAt};
-ghost use Rattle.store_model.specs.Images.{untold};
+ghost use Rattle.disk_file.specs.File.{disk_size, disk_faults, disk_frugal, no_calls, ReadsAt, WritesAt};
+ghost use Rattle.disk_model.specs.Disks.{untold};
+ghost use Rattle.store_model.specs.Disk.{page_bytes};
+ghost use Rattle.disk_model.specs.Frame.{KeepsDisk};
 
 use crate::OpenFailed;
-use blob_base::IoFault;
-use disk_model::{Disk, PAGE_BYTES, Page};
+use blob_base::{IoFault, PAGE_BYTES};
+use disk_model::{Disk, Page};
 use std::fs::{Files, OpenFile, OpenOptions};
 use std::io;
 use std::io::{Read, Seek, SeekFrom, Write};
@@ -26,21 +28,21 @@ pub struct FileDisk<F> {
 
 // Where a page begins in the file, in bytes.
 fn offset_of(page: u32) -> u64
-    ensures { result ≡ 4096 * page }
+    ensures { result ≡ page_bytes * page }
 {
     PAGE_BYTES as u64 * u64::from(page)
 }
 
 // How many pages a disk over a file of so many bytes has: its whole pages, as far as 32 bits count them.
 fn pages_of(bytes: u64) -> u32
-    ensures { result ≡ min (bytes / 4096) (2 ^ 32 - 1) }
+    ensures { result ≡ min (bytes / page_bytes) (2 ^ 32 - 1) }
 {
     (bytes / PAGE_BYTES as u64).min(u64::from(u32::MAX)) as u32
 }
 
 // Moves to a page.
 fn seek_page<F: Seek>(file: &mut F, page: u32) -> io::Result<()>
-    ensures moves { MovesTo (F.stream_position file.old) (F.stream_position file.new) (4096 * page) result }
+    ensures moves { MovesTo (F.stream_position file.old) (F.stream_position file.new) (page_bytes * page) result }
     ensures bytes { Keeps (F.stream_bytes file.old) (F.stream_bytes file.new) }
 {
     file.seek(SeekFrom::Start(offset_of(page)))?;
@@ -50,7 +52,7 @@ fn seek_page<F: Seek>(file: &mut F, page: u32) -> io::Result<()>
 // Reads a page; where the file ends before it does, that is an error.
 fn read_page<F: Read + Seek>(file: &mut F, page: u32, into: &mut Page) -> io::Result<()>
     ensures { OnOk result
-        (ReadsAt F.stream_position F.stream_bytes F.remaining file.old file.new (4096 * page) into.new) }
+        (ReadsAt F.stream_position F.stream_bytes F.remaining file.old file.new (page_bytes * page) into.new) }
 {
     seek_page(file, page)?;
     file.read_exact(into)
@@ -59,7 +61,7 @@ fn read_page<F: Read + Seek>(file: &mut F, page: u32, into: &mut Page) -> io::Re
 // Writes a page.
 fn write_page<F: Write + Seek>(file: &mut F, page: u32, from: &Page) -> io::Result<()>
     ensures { OnOk result
-        (WritesAt F.stream_position F.stream_bytes F.contents file.old file.new (4096 * page) from.now) }
+        (WritesAt F.stream_position F.stream_bytes F.contents file.old file.new (page_bytes * page) from.now) }
 {
     seek_page(file, page)?;
     file.write_all(from)
@@ -143,10 +145,9 @@ impl<F: Read + Write + Seek + OpenFile + Drop> Disk for FileDisk<F> {
 
     fn read(&mut self, page: u32, into: &mut Page) -> Result<(), IoFault>
         ensures read { OnOk result
-            (ReadsAt F.stream_position F.stream_bytes F.remaining self.old.file self.new.file (4096 * page) into.new) }
-        ensures size { self.new.size ≡ self.old.size }
-        ensures faults { self.old.faults ≤ self.new.faults }
-        ensures cause { IfErr result (λ e. HasCause e self.old.faults self.new.faults true) }
+            (ReadsAt F.stream_position F.stream_bytes F.remaining self.old.file self.new.file (page_bytes * page) into.new) }
+        ensures keeps { KeepsDisk disk_size disk_faults disk_frugal self.old self.new }
+        ensures cause { HasCause disk_faults disk_frugal self.old self.new result }
     {
         let answer = read_page(&mut self.file, page, into);
         self.counted(answer)
@@ -154,10 +155,9 @@ impl<F: Read + Write + Seek + OpenFile + Drop> Disk for FileDisk<F> {
 
     fn write(&mut self, page: u32, from: &Page) -> Result<(), IoFault>
         ensures written { OnOk result
-            (WritesAt F.stream_position F.stream_bytes F.contents self.old.file self.new.file (4096 * page) from.now) }
-        ensures size { self.new.size ≡ self.old.size }
-        ensures faults { self.old.faults ≤ self.new.faults }
-        ensures cause { IfErr result (λ e. HasCause e self.old.faults self.new.faults true) }
+            (WritesAt F.stream_position F.stream_bytes F.contents self.old.file self.new.file (page_bytes * page) from.now) }
+        ensures keeps { KeepsDisk disk_size disk_faults disk_frugal self.old self.new }
+        ensures cause { HasCause disk_faults disk_frugal self.old self.new result }
     {
         let answer = write_page(&mut self.file, page, from);
         self.counted(answer)

@@ -2,7 +2,8 @@
 //!
 //! ```rust
 //! use disk_file::FileDisk;
-//! use disk_model::{Disk, PAGE_BYTES};
+//! use blob_base::PAGE_BYTES;
+//! use disk_model::Disk;
 //!
 //! let mut disk = FileDisk::create(&rt, "store.img", 16)?;
 //! disk.write(3, &[7; PAGE_BYTES])?;

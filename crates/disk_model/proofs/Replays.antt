@@ -1,5 +1,5 @@
 -- What one more call makes of a replay, and of what a crash may leave.
-use Rattle.std.proofs.Common.{◌≡◌, ℕ, ◌+◌, ◌<◌, ◌≤◌, ◌⊎◌, inl, inr, true, false, IsTrue, Result, Ok, Err, List, [], ◌∷◌, ◌++◌, length, take, get_or, refl, sym, ap, ◌∙◌, subst, arith, add-one, length-append}
+use Rattle.std.proofs.Common.{◌≡◌, ℕ, ◌+◌, ◌<◌, ◌≤◌, ◌⊎◌, inl, inr, true, false, IsTrue, Result, Ok, Err, List, [], ◌∷◌, ◌++◌, length, take, get_or, refl, sym, ap, ◌∙◌, subst, arith, Bool, add-one, add-zero, length-append}
 use Rattle.std.specs.Prelude.{fold}
 use Rattle.std.proofs.Math.Nat.{le_refl}
 use Rattle.std.proofs.Math.Path.{fun_ext}
@@ -7,19 +7,34 @@ use Rattle.std.proofs.Math.Seq.{take-suc, take-length}
 use Rattle.std.proofs.lemmas.Bool.{cases_lt}
 use Rattle.std.proofs.lemmas.Bool.Decides.{eqb_tells, nat_tests}
 use Rattle.std.proofs.lemmas.List.{take-append-le}
-use Rattle.std.proofs.lemmas.List.Sums.{fold-append, sum_by-cons}
+use Rattle.std.proofs.lemmas.List.Sums.{fold-append, sum_by-append, sum_by-cons}
 use Rattle.disk_model.specs.declared.call.Call.{Call}
 use Rattle.disk_model.specs.declared.call.Call.TheVariants.{Read, Write, Sync}
 use Rattle.disk_model.specs.declared.call.Pick.{Pick}
 use Rattle.disk_model.specs.declared.call.Written.{Written}
-use Rattle.disk_model.specs.Calls.{Replay, image_of, image_after, is_write, with_pick, with_picks, settled, replay_call, replay_calls, are_pending, calls_of, crashed}
-use Rattle.disk_model.specs.Stories.{IsImage, LeftSince, story_of, HasPages-replay_calls, HasPages-image_of}
-use Rattle.store_model.specs.Disk.{Image, SameOff, with_page}
-use Rattle.store_model.specs.Images.{IsPage, HasPages, Settled, MayTear, MayStill, Stayed, Wrote, time_of}
+use Rattle.disk_model.specs.Calls.{Replay, with_written, image_of, image_after, is_write, with_pick, with_picks, settled, replay_call, replay_calls, are_pending, calls_of, crashed}
+use Rattle.disk_model.specs.Stories.{IsImage, LeftSince, story_of}
+use Rattle.store_model.specs.Disk.{Calls, HasPages, Image, IsPage, SameOff, with_page, with_read, with_sync, with_write}
+use Rattle.store_model.specs.Images.{Settled, MayTear, MayStill, Stayed, Unchanged, Wrote, time_of}
+use Rattle.store_model.proofs.PageLaws.{HasPages-with_page, IsPage-zero_page, fold-keeps}
 use Rattle.store_model.proofs.ImageLaws.{with_page_at, with_page_off, stayed_none, wrote_none}
 use Rattle.blob_base.specs.Faults.{OnMade, OnNoMemory}
 use Rattle.blob_base.specs.declared.faults.IoFault.{IoFault}
 use Rattle.blob_base.specs.declared.faults.IoFault.TheVariants.{Failed, OutOfMemory}
+
+-- each call keeps pages whole
+HasPages-replay_call : (replay : Replay) (call : Call) → HasPages replay.reads → HasPages (replay_call replay call).reads
+HasPages-replay_call replay Read pages = pages
+HasPages-replay_call replay (Write written) pages = HasPages-with_page replay.reads written.page written.bytes.value written.whole pages
+HasPages-replay_call replay (Sync true) pages = pages
+HasPages-replay_call replay (Sync false) pages = pages
+
+pub HasPages-replay_calls : (replay : Replay) (calls : List Call) → HasPages replay.reads → HasPages (replay_calls replay calls).reads
+HasPages-replay_calls = fold-keeps (λ (replay : Replay). HasPages replay.reads) replay_call HasPages-replay_call
+
+pub HasPages-image_of : (writes : List Written) → HasPages (image_of writes)
+HasPages-image_of writes =
+    fold-keeps HasPages with_written (λ image written. HasPages-with_page image written.page written.bytes.value written.whole) _ writes (λ _. IsPage-zero_page)
 
 -- one more step
 pub fold_more : {A B : Type 0} (f : B → A → B) (start : B) (xs : List A) (i : ℕ) (default : A) → i < length xs
@@ -301,10 +316,13 @@ wrote-take (Err OutOfMemory) start begin calls after written same made unmade =
     along (λ b a. Wrote (λ p. p ≡ written.page) (story_of start calls) (story_of b a)) start begin calls after same unmade (wrote_none (λ p. p ≡ written.page) (story_of start calls))
 
 -- a read that was made
-pub still-take : (start begin : List Written) (calls after : List Call) → begin ≡ start → after ≡ calls ++ Read ∷ []
-    → MayStill (story_of start calls) (story_of begin after)
-still-take start begin calls after same made =
+pub still-take : (result : Result (Unit {0}) IoFault) (start begin : List Written) (calls after : List Call) → begin ≡ start
+    → OnMade result (after ≡ calls ++ Read ∷ []) → OnMade result (MayStill (story_of start calls) (story_of begin after))
+still-take (Ok done) start begin calls after same made =
     along (λ b a. MayStill (story_of start calls) (story_of b a)) start begin (calls ++ Read ∷ []) after same made (still-read start calls)
+still-take (Err Failed) start begin calls after same made =
+    along (λ b a. MayStill (story_of start calls) (story_of b a)) start begin (calls ++ Read ∷ []) after same made (still-read start calls)
+still-take (Err OutOfMemory) start begin calls after same made = tt
 
 -- a write that was made may tear its page
 pub torn-take : (result : Result (Unit {0}) IoFault) (start begin : List Written) (calls after : List Call) (written : Written) → begin ≡ start
@@ -314,3 +332,30 @@ torn-take (Ok done) start begin calls after written same made =
 torn-take (Err Failed) start begin calls after written same made =
     along (λ b a. MayTear written.page (story_of start calls) (story_of b a)) start begin (calls ++ Write written ∷ []) after same made (torn-call start calls written)
 torn-take (Err OutOfMemory) start begin calls after written same made = tt
+
+-- one more call is counted
+pub calls-read : (calls : List Call) → calls_of (calls ++ Read ∷ []) ≡ with_read (calls_of calls)
+calls-read calls = simp (sum_by-append, sum_by-cons, add-zero) refl
+
+pub calls-write : (calls : List Call) (written : Written) → calls_of (calls ++ Write written ∷ []) ≡ with_write (calls_of calls)
+calls-write calls written = simp (sum_by-append, sum_by-cons, add-zero) refl
+
+pub calls-sync : (calls : List Call) (done : Bool) → calls_of (calls ++ Sync done ∷ []) ≡ with_sync (calls_of calls)
+calls-sync calls done = simp (sum_by-append, sum_by-cons, add-zero) refl
+
+pub made-take : (result : Result (Unit {0}) IoFault) (calls after : List Call) (call : Call) (more : Calls → Calls) → calls_of (calls ++ call ∷ []) ≡ more (calls_of calls)
+    → OnMade result (after ≡ calls ++ call ∷ []) → OnMade result (calls_of after ≡ more (calls_of calls))
+made-take (Ok done) calls after call more counted made = ap calls_of made ∙ counted
+made-take (Err Failed) calls after call more counted made = ap calls_of made ∙ counted
+made-take (Err OutOfMemory) calls after call more counted made = tt
+
+-- a call that wasn't made changes nothing
+pub unmade-take : (result : Result (Unit {0}) IoFault) (start begin : List Written) (calls after : List Call) → begin ≡ start → OnNoMemory result (after ≡ calls)
+    → OnNoMemory result ((calls_of after ≡ calls_of calls) × Unchanged (story_of start calls) (story_of begin after))
+unmade-take (Ok done) start begin calls after same unmade = tt
+unmade-take (Err Failed) start begin calls after same unmade = tt
+unmade-take (Err OutOfMemory) start begin calls after same unmade = (
+  ap calls_of unmade,
+  along (λ b a. Unchanged (story_of start calls) (story_of b a)) start begin calls after same unmade
+      (record { time = refl; reads = refl; leaves = λ t image left. left; keeps = λ t image left. left }),
+)

@@ -1,6 +1,8 @@
 pub mod Calls
 pub mod Stories
 pub mod Memory
+pub mod Frame
+pub mod Disks
 pub use Rattle.blob_base.specs.Faults
 pub use Rattle.store_model.specs.Disk
 pub use Rattle.store_model.specs.Layout

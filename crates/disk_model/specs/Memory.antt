@@ -1,5 +1,8 @@
 -- What a disk in memory tells.
-use Rattle.std.specs.Prelude.{ℕ, take}
+use Rattle.std.specs.Prelude.{ℕ, ◌+◌, ◌≡◌, ◌↔◌, Bool, false, Contains, IsErrOf, Result, take}
+use Rattle.blob_base.specs.Faults.{OnMade}
+use Rattle.blob_base.specs.declared.faults.IoFault.{IoFault}
+use Rattle.blob_base.specs.declared.faults.IoFault.TheVariants.{Failed}
 use Rattle.disk_model.specs.declared.memory.MemDisk.{MemDisk}
 use Rattle.disk_model.specs.Calls.{Replay, image_of, settled, replay_calls, calls_of}
 use Rattle.disk_model.specs.Stories.{story_of}
@@ -25,3 +28,13 @@ disk_faults disk = disk.faults
 -- how many pages it has
 abbrev pub disk_size : MemDisk → ℕ
 disk_size disk = disk.size
+
+-- it may find no memory
+abbrev pub disk_frugal : MemDisk → Bool
+disk_frugal disk = false
+
+-- A call that was made failed exactly where its number, counted from 1, is one of those that were chosen, and the choice is
+-- kept.
+pub record AsChosen {T : Type 0} (old new : MemDisk) (result : Result T IoFault) : Type 0 where
+  pub failed : OnMade result (IsErrOf result Failed ↔ Contains old.fails ((disk_story old).time + 1))
+  pub kept : new.fails ≡ old.fails

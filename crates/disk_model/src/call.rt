@@ -1,6 +1,6 @@
 // What a disk in memory records.
 
-ghost use Rattle.store_model.specs.Images.{IsPage};
+ghost use Rattle.store_model.specs.Disk.{IsPage};
 
 use crate::Page;
 

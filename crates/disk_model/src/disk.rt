@@ -1,14 +1,12 @@
 // The trait of disks.
 
-ghost use Rattle.std.specs.Prelude.{◌≡◌, ℕ, ◌<◌, ◌≤◌, Bool, IsTrue, OnOk, IfErr};
-ghost use Rattle.blob_base.specs.Faults.{HasCause, OnMade, OnFailed, OnNoMemory};
+ghost use Rattle.std.specs.Prelude.{◌≡◌, ℕ, ◌<◌, Bool, IsTrue, OnOk};
+ghost use Rattle.blob_base.specs.Faults.{HasCause, OnMade, OnFailed};
+ghost use Rattle.disk_model.specs.Frame.{Counted, KeepsDisk};
 ghost use Rattle.store_model.specs.Disk.{Calls, with_page, with_read, with_write, with_sync};
-ghost use Rattle.store_model.specs.Images.{Story, Settled, MayTear, MayStill, Stayed, Unchanged, Wrote, time_of};
+ghost use Rattle.store_model.specs.Images.{Story, Settled, MayTear, MayStill, Stayed, Wrote};
 
-use blob_base::IoFault;
-
-/// How many bytes a page has.
-pub const PAGE_BYTES: usize = 4096;
+use blob_base::{IoFault, PAGE_BYTES};
 
 /// The bytes of a page.
 pub type Page = [u8; PAGE_BYTES];
@@ -48,14 +46,9 @@ pub trait Disk {
         ensures bytes { IsTrue tells → OnOk result (into.new ≡ (story self.old).reads page) }
         ensures images { IsTrue tells → Stayed (story self.old) (story self.new) }
         ensures still { IsTrue tells → OnMade result (MayStill (story self.old) (story self.new)) }
-        ensures calls { IsTrue tells → OnMade result (calls self.new ≡ with_read (calls self.old)) }
-        ensures time { IsTrue tells → (story self.new).time ≡ time_of (calls self.new) }
-        ensures unmade { IsTrue tells
-            → OnNoMemory result ((calls self.new ≡ calls self.old) × Unchanged (story self.old) (story self.new)) }
-        ensures size { size self.new ≡ size self.old }
-        ensures faults { faults self.old ≤ faults self.new }
-        ensures cause { IfErr result (λ e. HasCause e (faults self.old) (faults self.new) (frugal self.old)) }
-        ensures frugal { frugal self.new ≡ frugal self.old };
+        ensures counted { Counted tells story calls faults with_read self.old self.new result }
+        ensures keeps { KeepsDisk size faults frugal self.old self.new }
+        ensures cause { HasCause faults frugal self.old self.new result };
 
     /// Writes a page. Where it failed, the page may read as any bytes.
     fn write(&mut self, page: u32, from: &Page) -> Result<(), IoFault>
@@ -64,26 +57,16 @@ pub trait Disk {
             → OnOk result ((story self.new).reads ≡ with_page (story self.old).reads page from.now) }
         ensures images { IsTrue tells → Wrote (λ p. p ≡ page) (story self.old) (story self.new) }
         ensures torn { IsTrue tells → OnMade result (MayTear page (story self.old) (story self.new)) }
-        ensures calls { IsTrue tells → OnMade result (calls self.new ≡ with_write (calls self.old)) }
-        ensures time { IsTrue tells → (story self.new).time ≡ time_of (calls self.new) }
-        ensures unmade { IsTrue tells
-            → OnNoMemory result ((calls self.new ≡ calls self.old) × Unchanged (story self.old) (story self.new)) }
-        ensures size { size self.new ≡ size self.old }
-        ensures faults { faults self.old ≤ faults self.new }
-        ensures cause { IfErr result (λ e. HasCause e (faults self.old) (faults self.new) (frugal self.old)) }
-        ensures frugal { frugal self.new ≡ frugal self.old };
+        ensures counted { Counted tells story calls faults with_write self.old self.new result }
+        ensures keeps { KeepsDisk size faults frugal self.old self.new }
+        ensures cause { HasCause faults frugal self.old self.new result };
 
     /// Makes the writes so far last.
     fn sync(&mut self) -> Result<(), IoFault>
         ensures images { IsTrue tells → Stayed (story self.old) (story self.new) }
         ensures failed { IsTrue tells → OnFailed result (MayStill (story self.old) (story self.new)) }
         ensures settled { IsTrue tells → OnOk result (Settled (story self.new)) }
-        ensures calls { IsTrue tells → OnMade result (calls self.new ≡ with_sync (calls self.old)) }
-        ensures time { IsTrue tells → (story self.new).time ≡ time_of (calls self.new) }
-        ensures unmade { IsTrue tells
-            → OnNoMemory result ((calls self.new ≡ calls self.old) × Unchanged (story self.old) (story self.new)) }
-        ensures size { size self.new ≡ size self.old }
-        ensures faults { faults self.old ≤ faults self.new }
-        ensures cause { IfErr result (λ e. HasCause e (faults self.old) (faults self.new) (frugal self.old)) }
-        ensures frugal { frugal self.new ≡ frugal self.old };
+        ensures counted { Counted tells story calls faults with_sync self.old self.new result }
+        ensures keeps { KeepsDisk size faults frugal self.old self.new }
+        ensures cause { HasCause faults frugal self.old self.new result };
 }

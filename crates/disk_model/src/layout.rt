@@ -5,7 +5,8 @@ ghost use Rattle.store_model.specs.Layout.{IsLayout, header_page, log_page, stat
 
 use std::marker::Model;
 
-/// The layout of a store: `units` of 1024 data pages, 1 to 16,384, and `room` pages for the states of a half, 1 to 1024.
+/// The layout of a store: `units` of 1024 data pages, 1 to 16,384, and `room` pages for the states of a half, 1 to
+/// 1024.
 #[derive(Clone, Copy, Debug, PartialEq, Eq)]
 pub struct Layout {
     pub units: u32,
@@ -25,10 +26,17 @@ impl Model for Layout {
 }
 
 impl Layout {
+    /// The rules that each layout keeps.
+    pub fn rules(&self)
+        ensures { IsLayout self.now }
+    {
+        // They are known where a field is read.
+        let _ = &self.units;
+    }
+
     /// How many pages it takes.
     pub fn total(&self) -> u32
-        ensures pages { result ≡ total_pages self.now }
-        ensures within { IsLayout self.now }
+        ensures { result ≡ total_pages self.now }
     {
         1027 + 2 * self.room + 1024 * self.units
     }
@@ -68,8 +76,7 @@ impl Layout {
 
     /// The first page of the data area.
     pub fn data(&self) -> u32
-        ensures page { result ≡ data_page self.now }
-        ensures within { IsLayout self.now }
+        ensures { result ≡ data_page self.now }
     {
         1027 + 2 * self.room
     }

@@ -8,6 +8,6 @@ mod memory;
 mod record;
 
 pub use call::Pick;
-pub use disk::{Disk, PAGE_BYTES, Page};
+pub use disk::{Disk, Page};
 pub use layout::Layout;
 pub use memory::MemDisk;

@@ -2,7 +2,8 @@
 
 ghost use Rattle.std.specs.Prelude.{◌≡◌, ℕ, ◌+◌, ◌-◌, ◌^◌, ◌<◌, ◌≤◌, ◌↔◌, min, Bool, true, false, IsTrue, [], ◌∷◌, ◌++◌, length, take, OnOk, OnErr, IfOk, IfErr};
 ghost use Rattle.std.specs.List.{Contains};
-ghost use Rattle.blob_base.specs.Faults.{HasCause, OnMade, OnFailed, OnNoMemory};
+ghost use Rattle.blob_base.specs.Faults.{CameFrom, HasCause, OnMade, OnFailed, OnNoMemory};
+ghost use Rattle.disk_model.specs.Frame.{Counted, KeepsDisk};
 ghost use Rattle.disk_model.specs.Calls.{calls_of, image_of, are_pending, crashed};
 ghost use Rattle.disk_model.specs.Stories.{story_of};
 ghost use Rattle.store_model.specs.Disk.{zero_page};
@@ -13,8 +14,8 @@ use crate::record::{
     is_pending_after, last_put, last_written, put_again, put_calls, put_picks, read_count,
     sync_count, synced_count, write_count,
 };
-use crate::{Disk, PAGE_BYTES, Page};
-use blob_base::{Bytes64, IoFault, OutOfMemory};
+use crate::{Disk, Page};
+use blob_base::{Bytes64, IoFault, OutOfMemory, PAGE_BYTES};
 use std::alloc::Global;
 
 /// A disk in memory that fails at chosen calls. It tells its pages and its images, keeps a record of all its calls, and
@@ -165,8 +166,10 @@ impl MemDisk {
         ensures failed { OnFailed result (fails ≡ true) }
         ensures start { self.new.start ≡ self.old.start }
         ensures size { self.new.size ≡ self.old.size }
+        ensures fails { self.new.fails ≡ self.old.fails }
         ensures faults { self.old.faults ≤ self.new.faults }
-        ensures cause { IfErr result (λ e. HasCause e self.old.faults self.new.faults false) }
+        ensures raised { OnNoMemory result (self.new.faults ≡ self.old.faults) }
+        ensures cause { IfErr result (λ e. CameFrom e self.old.faults self.new.faults false) }
     {
         if self.calls.push(call).is_err() {
             return Err(IoFault::OutOfMemory);
@@ -180,6 +183,10 @@ impl MemDisk {
 }
 
 impl Disk for MemDisk {
+    ghost use Rattle.disk_model.specs.Memory.{AsChosen, disk_story, disk_calls, disk_faults, disk_frugal, disk_size};
+    ghost use Rattle.store_model.specs.Disk.{with_page, with_read, with_write, with_sync};
+    ghost use Rattle.store_model.specs.Images.{MayStill, MayTear, Settled, Stayed, Wrote};
+
     ghost tells = { true };
 
     ghost size = { λ disk. disk.size };
@@ -196,14 +203,33 @@ impl Disk for MemDisk {
         self.size
     }
 
-    fn read(&mut self, page: u32, into: &mut Page) -> Result<(), IoFault> {
+    fn read(&mut self, page: u32, into: &mut Page) -> Result<(), IoFault>
+        ensures bytes { OnOk result (into.new ≡ (disk_story self.old).reads page) }
+        ensures images { Stayed (disk_story self.old) (disk_story self.new) }
+        ensures still { OnMade result (MayStill (disk_story self.old) (disk_story self.new)) }
+        ensures counted { Counted true disk_story disk_calls disk_faults with_read self.old self.new result }
+        ensures keeps { KeepsDisk disk_size disk_faults disk_frugal self.old self.new }
+        ensures cause { HasCause disk_faults disk_frugal self.old self.new result }
+        ensures chosen { AsChosen self.old self.new result }
+    {
         let fails = self.is_next_to_fail();
-        self.take(Call::Read, fails)?;
-        *into = self.page_now(page);
-        Ok(())
+        let answer = self.take(Call::Read, fails);
+        if answer.is_ok() {
+            *into = self.page_now(page);
+        }
+        answer
     }
 
-    fn write(&mut self, page: u32, from: &Page) -> Result<(), IoFault> {
+    fn write(&mut self, page: u32, from: &Page) -> Result<(), IoFault>
+        ensures bytes { OnOk result
+            ((disk_story self.new).reads ≡ with_page (disk_story self.old).reads page from.now) }
+        ensures images { Wrote (λ p. p ≡ page) (disk_story self.old) (disk_story self.new) }
+        ensures torn { OnMade result (MayTear page (disk_story self.old) (disk_story self.new)) }
+        ensures counted { Counted true disk_story disk_calls disk_faults with_write self.old self.new result }
+        ensures keeps { KeepsDisk disk_size disk_faults disk_frugal self.old self.new }
+        ensures cause { HasCause disk_faults disk_frugal self.old self.new result }
+        ensures chosen { AsChosen self.old self.new result }
+    {
         let Ok(bytes) = Box::new(self.alloc, *from) else {
             return Err(IoFault::OutOfMemory);
         };
@@ -211,7 +237,15 @@ impl Disk for MemDisk {
         self.take(Call::Write(Written { page, bytes }), fails)
     }
 
-    fn sync(&mut self) -> Result<(), IoFault> {
+    fn sync(&mut self) -> Result<(), IoFault>
+        ensures images { Stayed (disk_story self.old) (disk_story self.new) }
+        ensures failed { OnFailed result (MayStill (disk_story self.old) (disk_story self.new)) }
+        ensures settled { OnOk result (Settled (disk_story self.new)) }
+        ensures counted { Counted true disk_story disk_calls disk_faults with_sync self.old self.new result }
+        ensures keeps { KeepsDisk disk_size disk_faults disk_frugal self.old self.new }
+        ensures cause { HasCause disk_faults disk_frugal self.old self.new result }
+        ensures chosen { AsChosen self.old self.new result }
+    {
         let fails = self.is_next_to_fail();
         self.take(Call::Sync { done: !fails }, fails)
     }

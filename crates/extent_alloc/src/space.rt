@@ -54,12 +54,19 @@ impl Space {
         }
     }
 
-    /// How many pages the area has. The rules that each space keeps are clauses here.
-    pub fn pages(&self) -> u32
-        ensures value { result ≡ self.now.pages }
-        ensures most { result ≤ 2 ^ 24 }
+    /// The rules that each space keeps.
+    pub fn rules(&self)
+        ensures most { self.now.pages ≤ 2 ^ 24 }
         ensures blocks { AreBlocks self.now.pages self.now.owned }
         ensures apart { Apart self.now.owned }
+    {
+        // They are known where a field is read.
+        let _ = &self.pages;
+    }
+
+    /// How many pages the area has.
+    pub fn pages(&self) -> u32
+        ensures { result ≡ self.now.pages }
     {
         self.pages
     }

@@ -6,28 +6,20 @@ use Rattle.std.proofs.Math.Seq.{take-add}
 use Rattle.std.proofs.lemmas.List.{drop-drop, drop-take, take-take, take_all}
 use Rattle.std.proofs.lemmas.Slice.{take-put_mid}
 use borrow.Rule.Slice.PartMut.{put_mid}
-use Rattle.store_model.specs.Disk.{Calls, Image, page_bytes}
-use Rattle.store_model.specs.Holds.{Holds, StandsAt, Took, full_page}
+use Rattle.store_model.specs.Disk.{Calls, Image, Took, page_bytes}
+use Rattle.store_model.specs.Holds.{Holds, StandsAt, full_page, place_of}
 use Rattle.store_model.specs.Images.{Story, Stayed}
-use Rattle.store_model.specs.Store.{Place}
+use Rattle.store_model.specs.State.{State}
+use Rattle.store_model.proofs.HeldLaws.{HoldsAt-full}
 use Rattle.extent_io.specs.Pages.{BeginsAs, FrontAs, bytes_before}
 
 -- Some bytes are read: those before page number `number`.
-pub record Gathering (tells : Bool) (first : ℕ) (place : Place) (size off begun number : ℕ) (from into : List ℕ) (old new : Story) (was now : Calls) : Type 0 where
-  pub bytes : IsTrue tells → (content : List ℕ) → length content ≡ size → Holds old.reads first place content
+pub record Gathering (tells : Bool) (first : ℕ) (state : State) (off begun number : ℕ) (from into : List ℕ) (old new : Story) (was now : Calls) : Type 0 where
+  pub bytes : IsTrue tells → (content : List ℕ) → Holds old.reads first state content
       → FrontAs into off content (bytes_before off (length from) number)
   pub length : length into ≡ length from
-  pub reads : IsTrue tells → Took (number - begun) 0 was now
+  pub reads : IsTrue tells → Took (number - begun) 0 0 was now
   pub images : IsTrue tells → Stayed old new
-
--- calls that write nothing, one after another
-pub stayed_then : (a b c : Story) → Stayed a b → Stayed b c → Stayed a c
-stayed_then a b c one other = record {
-  later = omega (arith, one.later, other.later);
-  reads = other.reads ∙ one.reads;
-  leaves = λ t image most left. one.leaves t image most (other.leaves t image (omega (arith, most, one.later)) left);
-  keeps = λ t image most left. other.keeps t image (omega (arith, most, one.later)) (one.keeps t image most left);
-}
 
 -- Part of a page, in terms of the content: the bytes of page number `number` from `skip` on, so many of them.
 part-is : (number skip count : ℕ) (page content : List ℕ) → BeginsAs page number content → skip + count ≤ page_bytes → page_bytes * number + (skip + count) ≤ length content
@@ -66,22 +58,24 @@ laid off number from to count page into part content from_is to_is below above l
     (take-put_mid done count into part (done + count) (omega (arith, exact)) (omega (arith, from_is, above)) ∙ front-more done count into part (drop off content) first bytes)
 
 -- a full page that was read
-pub begins-full : (first : ℕ) (place : Place) (image : Image) (size number at : ℕ) (page content : List ℕ) → length content ≡ size → Holds image first place content
-    → number < size / page_bytes → StandsAt place number at → page ≡ image (first + at) → BeginsAs page number content
-begins-full first place image size number at page content size_is holds below stands is =
-    let whole : page ≡ full_page content number = is ∙ holds.full number at (omega (arith, below, size_is)) stands in
+pub begins-full : (first : ℕ) (state : State) (image : Image) (number at : ℕ) (page content : List ℕ) → Holds image first state content
+    → number < state.size / page_bytes → StandsAt (place_of state) number at → page ≡ image (first + at) → BeginsAs page number content
+begins-full first state image number at page content holds below stands is =
+    let size_is : length content ≡ state.size = holds.size in
+    let whole : page ≡ full_page content number =
+    is ∙ HoldsAt-full image first (place_of state) content holds.at number at (omega (arith, below, size_is)) stands in
     ap (λ (xs : List ℕ). take (min page_bytes (length content - page_bytes * number)) xs) whole
     ∙ ap (λ (n : ℕ). take n (full_page content number)) (let e : min page_bytes (length content - page_bytes * number) ≡ page_bytes = omega (arith, below, size_is) in e)
     ∙ take-take page_bytes page_bytes (drop (page_bytes * number) content) (omega arith)
 
 -- a tail page that was read
-pub begins-tail : (first : ℕ) (place : Place) (image : Image) (size number at : ℕ) (page content : List ℕ) → length content ≡ size → Holds image first place content
-    → size / page_bytes ≤ number → page_bytes * number < size → place.tail ≡ Some at → page ≡ image (first + at) → BeginsAs page number content
-begins-tail first place image size number at page content size_is holds past below there is =
+pub begins-tail : (first : ℕ) (state : State) (image : Image) (number at : ℕ) (page content : List ℕ) → Holds image first state content
+    → state.size / page_bytes ≤ number → page_bytes * number < state.size → state.tail ≡ Some at → page ≡ image (first + at) → BeginsAs page number content
+begins-tail first state image number at page content holds past below there is =
+    let size_is : length content ≡ state.size = holds.size in
     let last : number ≡ length content / page_bytes = omega (arith, past, below, size_is) in
-    let rest : ℕ = page_bytes * number in
     ap (λ (xs : List ℕ). take (min page_bytes (length content - page_bytes * number)) xs) is
     ∙ ap (λ (n : ℕ). take n (image (first + at))) (let e : min page_bytes (length content - page_bytes * number) ≡ length content % page_bytes = omega (arith, last) in e)
-    ∙ holds.tail at there
+    ∙ holds.at.tail at there
     ∙ ap (λ (n : ℕ). drop (page_bytes * n) content) (sym last)
     ∙ sym (take_all page_bytes (drop (page_bytes * number) content) (omega (arith, last, length-drop (page_bytes * number) content)))

@@ -1,63 +1,57 @@
 -- Steps of writing a content page by page.
 use Rattle.std.proofs.Common.{◌≡◌, ℕ, zero, suc, ◌+◌, ◌-◌, ◌*◌, ◌/◌, ◌%◌, ◌<◌, ◌≤◌, List, [], length, take, drop, replicate, get_or, length-drop, Bool, refl, sym, ap, ◌∙◌, subst, arith, inl, inr}
-use Rattle.std.specs.Prelude.{IsTrue, Option, Some}
+use Rattle.std.specs.Prelude.{IsTrue, Option, Some, None, Result, Ok, Err, OnOk, min}
+use Rattle.blob_base.specs.Faults.{OnMade}
+use Rattle.blob_base.specs.declared.faults.IoFault.{IoFault}
+use Rattle.blob_base.specs.declared.faults.IoFault.TheVariants.{Failed, OutOfMemory}
 use Rattle.std.specs.Simd.{first_chunks}
 use Rattle.std.proofs.Math.Seq.{take-append_seam}
 use Rattle.std.proofs.lemmas.Bool.{cases_lt}
 use Rattle.std.proofs.lemmas.List.{drop-drop}
-use Rattle.blob_base.specs.Faults.{HasCause}
-use Rattle.blob_base.specs.declared.faults.IoFault.{IoFault}
-use Rattle.blob_base.specs.declared.faults.IoFault.TheVariants.{Failed, OutOfMemory}
-use Rattle.store_model.specs.Disk.{Calls, Image, SameOff, page_bytes, page_of, with_page, with_write}
-use Rattle.store_model.specs.Holds.{Holds, HoldsFront, IsFullPage, IsPoured, IsTailPage, StandsAt, Took, full_page, place_of, rest_of}
+use Rattle.store_model.specs.Disk.{Calls, Image, SameOff, Took, page_bytes, page_of, with_page, with_write}
+use Rattle.store_model.specs.Holds.{Holds, HoldsFront, IsFullPage, IsPoured, IsTailPage, StandsAt, full_page, place_of, rest_of}
 use Rattle.store_model.specs.Images.{Story, Wrote}
 use Rattle.store_model.specs.Layout.{Layout, data_page}
 use Rattle.store_model.specs.Space.{Apart, AreBlocks, blocks_of}
-use Rattle.store_model.specs.State.{State}
-use Rattle.store_model.specs.Store.{Place}
+use Rattle.store_model.specs.State.{HasTail, IsState, State}
+use Rattle.store_model.specs.Store.{Placement}
+use Rattle.store_model.proofs.HoldsLaws.{stands-somewhere}
+use Rattle.store_model.proofs.VerifyLaws.{no_tail}
 use Rattle.store_model.proofs.ImageLaws.{with_page_at, with_page_off, wrote_more, wrote_none, wider}
 use Rattle.store_model.proofs.PlaceLaws.{StandsAt-apart, StandsAt-one, StandsAt-tail, tail-within}
+use Rattle.disk_model.specs.Disks.{OnlyWrites}
+use Rattle.disk_model.specs.declared.disk.Disk.{Ghosts}
+use Rattle.disk_model.proofs.DiskLaws.{OnlyWrites-more, OnlyWrites-wider}
 use Rattle.extent_io.specs.Pages.{PagesRead}
 
--- a cause is one of a longer run of calls too
-pub cause-later : (e : IoFault) (before mid now : ℕ) (frugal was : Bool) → before ≤ mid → frugal ≡ was → HasCause e mid now frugal → HasCause e before now was
-cause-later Failed before mid now frugal was le same cause = omega (arith, cause, le)
-cause-later OutOfMemory before mid now frugal was le same cause = sym same ∙ cause
-
--- what calls on a disk keep
-pub record SoFar (old_size new_size old_faults new_faults : ℕ) (old_frugal new_frugal : Bool) : Type 0 where
-  pub size : new_size ≡ old_size
-  pub faults : old_faults ≤ new_faults
-  pub frugal : new_frugal ≡ old_frugal
-
 -- the tail page is one of the data area's
-pub tail-page-within : (pages page : ℕ) (place : Place) → AreBlocks pages (blocks_of place) → place.tail ≡ Some page → page < pages
+pub tail-page-within : (pages page : ℕ) (place : Placement) → AreBlocks pages (blocks_of place) → place.tail ≡ Some page → page < pages
 tail-page-within pages page place blocks is =
     tail-within pages page place.heads (subst (λ (t : Option ℕ). AreBlocks pages (blocks_of (record { heads = place.heads; tail = t }))) is blocks)
 
 -- a write of the tail page
-pub wrote-tail : (first : ℕ) (place : Place) (page start : ℕ) (old new : Story) → place.tail ≡ Some page → start ≡ first
+pub wrote-tail : (first : ℕ) (place : Placement) (page start : ℕ) (old new : Story) → place.tail ≡ Some page → start ≡ first
     → Wrote (λ p. p ≡ start + page) old new → Wrote (IsTailPage first place) old new
 wrote-tail first place page start old new is at wrote =
     wider (λ p. p ≡ start + page) (IsTailPage first place) old new (λ p here. record { at = page; tail = is; is = omega (arith, here, at) }) wrote
 
 -- The full pages from number `from` up to `page` are written.
-pub record Pouring (tells : Bool) (first : ℕ) (place : Place) (from page to : ℕ) (pages : List (List ℕ)) (old new : Story) (was now : Calls) : Type 0 where
+pub record Pouring (tells : Bool) (first : ℕ) (place : Placement) (from page to : ℕ) (pages : List (List ℕ)) (old new : Story) (was now : Calls) : Type 0 where
   pub reads : IsTrue tells → PagesRead first place from page pages new.reads
   pub wrote : IsTrue tells → Wrote (IsFullPage first place from to) old new
-  pub calls : IsTrue tells → Took 0 (page - from) was now
+  pub calls : IsTrue tells → Took 0 (page - from) 0 was now
 
 -- none yet
-pub Pouring-none : (tells : Bool) (first : ℕ) (place : Place) (from to : ℕ) (pages : List (List ℕ)) (old : Story) (was : Calls)
+pub Pouring-none : (tells : Bool) (first : ℕ) (place : Placement) (from to : ℕ) (pages : List (List ℕ)) (old : Story) (was : Calls)
     → Pouring tells first place from from to pages old old was was
 Pouring-none tells first place from to pages old was = record {
   reads = λ told page at least below stands. absurd (omega (arith, least, below));
   wrote = λ told. wrote_none (IsFullPage first place from to) old;
-  calls = λ told. record { reads = omega arith; writes = omega arith; syncs = refl };
+  calls = λ told. record { reads = omega arith; writes = omega arith; syncs = omega arith };
 }
 
 -- a further write leaves what the pages before read as
-reads-next : (first : ℕ) (place : Place) (from page at : ℕ) (pages : List (List ℕ)) (bytes : List ℕ) (mid new : Image) → Apart (blocks_of place)
+reads-next : (first : ℕ) (place : Placement) (from page at : ℕ) (pages : List (List ℕ)) (bytes : List ℕ) (mid new : Image) → Apart (blocks_of place)
     → StandsAt place page at → PagesRead first place from page pages mid → new ≡ with_page mid (first + at) bytes → bytes ≡ get_or pages (page - from) []
     → PagesRead first place from (page + 1) pages new
 reads-next first place from page at pages bytes mid new apart stands before put is p there least below other =
@@ -75,15 +69,39 @@ reads-next first place from page at pages bytes mid new apart stands before put 
     ]
 
 -- one more write
-pub took-write : (n next : ℕ) (was then now : Calls) → Took 0 n was then → now ≡ with_write then → next ≡ n + 1 → Took 0 next was now
+pub took-write : (n next : ℕ) (was then now : Calls) → Took 0 n 0 was then → now ≡ with_write then → next ≡ n + 1 → Took 0 next 0 was now
 took-write n next was then now took made is = record {
   reads = ap (λ (c : Calls). c.reads) made ∙ took.reads;
   writes = omega (arith, ap (λ (c : Calls). c.writes) made, took.writes, is);
   syncs = ap (λ (c : Calls). c.syncs) made ∙ took.syncs;
 }
 
+-- a call that was made and succeeded
+pub made-ok : (result : Result (Unit {0}) IoFault) (P Q : Type 0) → OnMade result P → (P → Q) → OnOk result Q
+made-ok (Ok done) P Q made then = then made
+made-ok (Err Failed) P Q made then = tt
+made-ok (Err OutOfMemory) P Q made then = tt
+
+-- a tail's page is there where bytes are left over
+pub tail-some : (size : ℕ) (tail : Option ℕ) (page : ℕ) → HasTail size tail → tail ≡ Some page → 0 < size % page_bytes
+tail-some size tail page has is = (subst (λ (t : Option ℕ). HasTail size t) is has).0 refl
+
+-- the write of a tail
+pub took-tail : (size : ℕ) (was now : Calls) → 0 < size % page_bytes → now ≡ with_write was → Took 0 (min 1 (size % page_bytes)) 0 was now
+took-tail size was now some made = record {
+  reads = omega (arith, ap (λ (c : Calls). c.reads) made);
+  writes = omega (arith, ap (λ (c : Calls). c.writes) made, some);
+  syncs = omega (arith, ap (λ (c : Calls). c.syncs) made);
+}
+
+-- where there is none, nothing is written
+pub took-no_tail : (size : ℕ) (tail : Option ℕ) (was : Calls) → HasTail size tail → tail ≡ None → Took 0 (min 1 (size % page_bytes)) 0 was was
+took-no_tail size tail was has is =
+    let none : size % page_bytes ≡ 0 = no_tail size (subst (λ (t : Option ℕ). HasTail size t) is has) in
+    record { reads = omega arith; writes = omega (arith, none); syncs = omega arith }
+
 -- one more page
-pub Pouring-next : (tells : Bool) (first : ℕ) (place : Place) (from page to : ℕ) (pages : List (List ℕ)) (old mid new : Story) (was then now : Calls)
+pub Pouring-next : (tells : Bool) (first : ℕ) (place : Placement) (from page to : ℕ) (pages : List (List ℕ)) (old mid new : Story) (was then now : Calls)
     (start at : ℕ) (bytes : List ℕ) → Apart (blocks_of place) → StandsAt place page at → from ≤ page → page < to → start ≡ first → bytes ≡ get_or pages (page - from) []
     → Pouring tells first place from page to pages old mid was then
     → (IsTrue tells → new.reads ≡ with_page mid.reads (start + at) bytes) → (IsTrue tells → Wrote (λ p. p ≡ start + at) mid new)
@@ -98,7 +116,7 @@ Pouring-next tells first place from page to pages old mid new was then now start
 }
 
 -- a further write that failed
-pub Pouring-torn : (tells : Bool) (first : ℕ) (place : Place) (from page to : ℕ) (pages : List (List ℕ)) (old mid new : Story) (was then : Calls)
+pub Pouring-torn : (tells : Bool) (first : ℕ) (place : Placement) (from page to : ℕ) (pages : List (List ℕ)) (old mid new : Story) (was then : Calls)
     (start at : ℕ) → IsTrue tells → StandsAt place page at → from ≤ page → page < to → start ≡ first
     → Pouring tells first place from page to pages old mid was then → Wrote (λ p. p ≡ start + at) mid new
     → Wrote (IsFullPage first place from to) old new
@@ -136,7 +154,7 @@ pub length-rest_of : (content : List ℕ) → length (rest_of content) ≡ lengt
 length-rest_of content = omega (arith, length-drop (page_bytes * (length content / page_bytes)) content)
 
 -- a full page that was not written
-page-kept : (first : ℕ) (place : Place) (from to page at : ℕ) (old new : Image) → Apart (blocks_of place) → StandsAt place page at
+page-kept : (first : ℕ) (place : Placement) (from to page at : ℕ) (old new : Image) → Apart (blocks_of place) → StandsAt place page at
     → (from ≤ page → ⊥) → SameOff (IsFullPage first place from to) old new → new (first + at) ≡ old (first + at)
 page-kept first place from to page at old new apart stands off same =
     same (first + at) (λ is. (
@@ -145,7 +163,7 @@ page-kept first place from to page at old new apart stands off same =
     off (omega (arith, equal, is.least))))
 
 -- and one beside the tail page
-page-beside : (first : ℕ) (place : Place) (page at : ℕ) (old new : Image) → Apart (blocks_of place) → StandsAt place page at
+page-beside : (first : ℕ) (place : Placement) (page at : ℕ) (old new : Image) → Apart (blocks_of place) → StandsAt place page at
     → SameOff (IsTailPage first place) old new → new (first + at) ≡ old (first + at)
 page-beside first place page at old new apart stands same =
     same (first + at) (λ is. (
@@ -153,26 +171,37 @@ page-beside first place page at old new apart stands same =
     StandsAt-tail place page at apart stands (is.tail ∙ ap (λ (q : ℕ). Some q) there)))
 
 -- A content is written: its full pages and then its tail page.
-pub Holds-poured : (first : ℕ) (place : Place) (size from : ℕ) (content rest end : List ℕ) (pages : List (List ℕ)) (old mid new : Image) → Apart (blocks_of place)
-    → length content ≡ size → from ≤ size / page_bytes → page_bytes * from + length rest ≡ size → rest ≡ drop (page_bytes * from) content
-    → HoldsFront from old first place content → SameOff (IsFullPage first place from (size / page_bytes)) old mid → SameOff (IsTailPage first place) mid new
-    → pages ≡ first_chunks page_bytes (length rest / page_bytes) rest → PagesRead first place from (size / page_bytes) pages mid
-    → end ≡ rest_of rest → ((page : ℕ) → place.tail ≡ Some page → new (first + page) ≡ page_of end)
-    → Holds new first place content
-Holds-poured first place size from content rest end pages old mid new apart size_is least count is front full tail chunks read end_is filled = record {
-  full = λ page at below stands. page-beside first place page at mid new apart stands tail
-      ∙ elim (cases_lt page from) [
-        | inl before ↦ page-kept first place from (size / page_bytes) page at old mid apart stands (λ past. omega (arith, before, past)) full ∙ front page at before stands
-        | inr past ↦ read page at past (omega (arith, below, size_is)) stands
-            ∙ ap (λ (ps : List (List ℕ)). get_or ps (page - from) []) chunks
-            ∙ get_or-first_chunks page_bytes (length rest / page_bytes) (page - from) rest (omega (arith, count, past, below, size_is))
-            ∙ rest-page from page content rest past is
-      ];
-  tail = λ page there.
-      ap (λ (xs : List ℕ). take (length content % page_bytes) xs)
-      (filled page there ∙ ap page_of (end_is ∙ rest-tail from content rest (omega (arith, least, size_is)) (count ∙ sym size_is) is))
-      ∙ ap (λ (n : ℕ). take n (page_of (rest_of content))) (sym (length-rest_of content))
-      ∙ take-append_seam (rest_of content) (replicate (page_bytes - length (rest_of content)) 0);
+pub Holds-poured : (first : ℕ) (state : State) (from : ℕ) (content rest end : List ℕ) (pages : List (List ℕ)) (old mid new : Image) → IsState state
+    → Apart (blocks_of (place_of state)) → length content ≡ state.size → from ≤ state.size / page_bytes → page_bytes * from + length rest ≡ state.size
+    → rest ≡ drop (page_bytes * from) content → HoldsFront from old first (place_of state) content
+    → SameOff (IsFullPage first (place_of state) from (state.size / page_bytes)) old mid → SameOff (IsTailPage first (place_of state)) mid new
+    → pages ≡ first_chunks page_bytes (length rest / page_bytes) rest → PagesRead first (place_of state) from (state.size / page_bytes) pages mid
+    → end ≡ rest_of rest → ((page : ℕ) → state.tail ≡ Some page → new (first + page) ≡ page_of end)
+    → Holds new first state content
+Holds-poured first state from content rest end pages old mid new sound apart size_is least count is front full tail chunks read end_is filled = record {
+  size = size_is;
+  at = record {
+    full = λ page below.
+        let place : Placement = place_of state in
+        let one = stands-somewhere state sound page (omega (arith, below, size_is)) in (
+          one.0,
+          one.1,
+          page-beside first place page one.0 mid new apart one.1 tail
+              ∙ elim (cases_lt page from) [
+                | inl before ↦ page-kept first place from (state.size / page_bytes) page one.0 old mid apart one.1 (λ past. omega (arith, before, past)) full ∙ front page one.0 before one.1
+                | inr past ↦ read page one.0 past (omega (arith, below, size_is)) one.1
+                    ∙ ap (λ (ps : List (List ℕ)). get_or ps (page - from) []) chunks
+                    ∙ get_or-first_chunks page_bytes (length rest / page_bytes) (page - from) rest (omega (arith, count, past, below, size_is))
+                    ∙ rest-page from page content rest past is
+              ],
+        );
+    tailed = subst (λ (size : ℕ). HasTail size state.tail) (sym size_is) sound.tail;
+    tail = λ page there.
+        ap (λ (xs : List ℕ). take (length content % page_bytes) xs)
+        (filled page there ∙ ap page_of (end_is ∙ rest-tail from content rest (omega (arith, least, size_is)) (count ∙ sym size_is) is))
+        ∙ ap (λ (n : ℕ). take n (page_of (rest_of content))) (sym (length-rest_of content))
+        ∙ take-append_seam (rest_of content) (replicate (page_bytes - length (rest_of content)) 0);
+  };
 }
 
 -- what is behind the last whole chunk
@@ -180,15 +209,15 @@ pub end-is : (rest end : List ℕ) → end ≡ drop (length rest / page_bytes * 
 end-is rest end is = is ∙ ap (λ (n : ℕ). drop n rest) (let e : length rest / page_bytes * page_bytes ≡ page_bytes * (length rest / page_bytes) = omega arith in e)
 
 -- the full pages are some of those that are written
-pub wrote-full : (layout : Layout) (state : State) (from : ℕ) (old mid : Story)
-    → Wrote (IsFullPage (data_page layout) (place_of state) from (state.size / page_bytes)) old mid → Wrote (IsPoured layout state from) old mid
-wrote-full layout state from old mid full =
-    wider (IsFullPage (data_page layout) (place_of state) from (state.size / page_bytes)) (IsPoured layout state from) old mid (λ p is. inl is) full
+pub OnlyWrites-full : {D : Type 0} (g : Ghosts D) (layout : Layout) (state : State) (from : ℕ) (old mid : D)
+    → OnlyWrites g (IsFullPage (data_page layout) (place_of state) from (state.size / page_bytes)) old mid → OnlyWrites g (IsPoured layout state from) old mid
+OnlyWrites-full g layout state from old mid full =
+    OnlyWrites-wider g (IsFullPage (data_page layout) (place_of state) from (state.size / page_bytes)) (IsPoured layout state from) old mid (λ p is. inl is) full
 
 -- The pages that were written by both steps.
-pub wrote-both : (layout : Layout) (state : State) (from : ℕ) (old mid new : Story)
-    → Wrote (IsFullPage (data_page layout) (place_of state) from (state.size / page_bytes)) old mid
-    → Wrote (IsTailPage (data_page layout) (place_of state)) mid new → Wrote (IsPoured layout state from) old new
-wrote-both layout state from old mid new full tail =
-    wrote_more (IsTailPage (data_page layout) (place_of state)) (IsPoured layout state from) old mid new (λ p is. inr is)
-    (wrote-full layout state from old mid full) tail
+pub OnlyWrites-both : {D : Type 0} (g : Ghosts D) (layout : Layout) (state : State) (from : ℕ) (old mid new : D)
+    → OnlyWrites g (IsFullPage (data_page layout) (place_of state) from (state.size / page_bytes)) old mid
+    → OnlyWrites g (IsTailPage (data_page layout) (place_of state)) mid new → OnlyWrites g (IsPoured layout state from) old new
+OnlyWrites-both g layout state from old mid new full tail =
+    OnlyWrites-more g (IsTailPage (data_page layout) (place_of state)) (IsPoured layout state from) old mid new (λ p is. inr is)
+    (OnlyWrites-full g layout state from old mid full) tail

@@ -3,20 +3,23 @@ use Rattle.std.proofs.Common.{◌≡◌, ℕ, zero, suc, ◌+◌, ◌*◌, ◌/�
 use Rattle.std.specs.Prelude.{IsTrue}
 use Rattle.std.specs.List.{flat_map, range_with_len}
 use Rattle.std.specs.Cmp.Lexicographic.{other_text, pointwise, same_text}
+use Rattle.std.proofs.Common.{◌-◌, take, drop, length-drop}
+use Rattle.std.proofs.lemmas.List.{take_all}
 use Rattle.std.proofs.lemmas.Bool.{cases_lt}
 use Rattle.std.proofs.lemmas.Bool.Decides.{nat_tests}
-use Rattle.store_model.specs.Disk.{Calls, Image, page_bytes, with_read}
+use Rattle.store_model.specs.Disk.{Calls, Image, Took, page_bytes, with_read}
 use Rattle.store_model.specs.Hash.{Leads}
-use Rattle.store_model.specs.Holds.{Took, pages_from}
+use Rattle.store_model.specs.Holds.{pages_from}
 use Rattle.store_model.specs.Images.{Story, Stayed}
-use Rattle.store_model.specs.Shape.{UsesExtent, held_by}
+use Rattle.store_model.specs.Shape.{UsesExtent, held_by, pages_used}
 use Rattle.store_model.specs.State.{IsState, State}
-use Rattle.store_model.specs.Verify.{FailsFirst, computed, kept}
+use Rattle.store_model.specs.Holds.{rest_of}
+use Rattle.store_model.specs.Verify.{FailsFirst, computed, extent_part, given, kept, link_value}
+use Rattle.store_model.proofs.HoldsLaws.{link_value-extent, link_value-tail}
 use Rattle.store_model.proofs.HashLaws.{Leads-empty}
-use Rattle.store_model.proofs.ImageLaws.{stayed_none}
+use Rattle.store_model.proofs.ImageLaws.{stayed_none, stayed_then}
 use Rattle.store_model.proofs.ShapeLaws.{UsesExtent-HasShape, held_by-next}
-use Rattle.extent_io.specs.Pages.{pages_of_link, pages_of_links}
-use Rattle.extent_io.proofs.Gatherings.{stayed_then}
+use Rattle.extent_io.specs.Pages.{pages_of_link, pages_of_links, part_begin}
 
 -- the bytes of some data pages, one after another
 abbrev pub page_run : Image → ℕ → ℕ → ℕ → List ℕ
@@ -113,7 +116,7 @@ Verifying-next tells first state link old mid new want got want_is same before g
 -- a link fails
 pub Verifying-fails : (tells : Bool) (first : ℕ) (state : State) (link : ℕ) (old mid : Story) (want got : List ℕ) → IsTrue tells → link ≤ length state.extents
     → want ≡ kept state link → (want ≡ got → ⊥) → Verifying tells first state link old mid → got ≡ computed mid.reads first state link
-    → FailsFirst old.reads first state link want got
+    → FailsFirst (computed old.reads first state) state link want got
 Verifying-fails tells first state link old mid want got told exists want_is differ before got_is = record {
   exists = exists;
   before = before.holds told;
@@ -123,28 +126,28 @@ Verifying-fails tells first state link old mid want got told exists want_is diff
 }
 
 -- an answer that says which link fails
-pub fails-as : (image : Image) (first : ℕ) (state : State) (a link : ℕ) (b want c got : List ℕ)
-    → FailsFirst image first state a b c → a ≡ link → b ≡ want → c ≡ got → FailsFirst image first state link want got
-fails-as image first state a link b want c got fails one two three =
-    subst (λ (n : ℕ). FailsFirst image first state n want got) one
-    (subst (λ (xs : List ℕ). FailsFirst image first state a xs got) two (subst (λ (xs : List ℕ). FailsFirst image first state a b xs) three fails))
+pub fails-as : (value : ℕ → List ℕ) (state : State) (a link : ℕ) (b want c got : List ℕ)
+    → FailsFirst value state a b c → a ≡ link → b ≡ want → c ≡ got → FailsFirst value state link want got
+fails-as value state a link b want c got fails one two three =
+    subst (λ (n : ℕ). FailsFirst value state n want got) one
+    (subst (λ (xs : List ℕ). FailsFirst value state a xs got) two (subst (λ (xs : List ℕ). FailsFirst value state a b xs) three fails))
 
 -- no call, one more read, and calls after others
-pub took-none : (was : Calls) → Took 0 0 was was
-took-none was = record { reads = omega arith; writes = omega arith; syncs = refl }
+pub took-none : (was : Calls) → Took 0 0 0 was was
+took-none was = record { reads = omega arith; writes = omega arith; syncs = omega arith }
 
-pub took-read : (n next : ℕ) (was then now : Calls) → Took n 0 was then → now ≡ with_read then → next ≡ n + 1 → Took next 0 was now
+pub took-read : (n next : ℕ) (was then now : Calls) → Took n 0 0 was then → now ≡ with_read then → next ≡ n + 1 → Took next 0 0 was now
 took-read n next was then now took made is = record {
   reads = omega (arith, ap (λ (c : Calls). c.reads) made, took.reads, is);
   writes = ap (λ (c : Calls). c.writes) made ∙ took.writes;
   syncs = ap (λ (c : Calls). c.syncs) made ∙ took.syncs;
 }
 
-took-then : (m n sum : ℕ) (was then now : Calls) → sum ≡ m + n → Took m 0 was then → Took n 0 then now → Took sum 0 was now
+took-then : (m n sum : ℕ) (was then now : Calls) → sum ≡ m + n → Took m 0 0 was then → Took n 0 0 then now → Took sum 0 0 was now
 took-then m n sum was then now is one other = record {
   reads = omega (arith, one.reads, other.reads, is);
   writes = omega (arith, one.writes, other.writes);
-  syncs = other.syncs ∙ one.syncs;
+  syncs = omega (arith, one.syncs, other.syncs);
 }
 
 -- a further link reads its pages
@@ -156,8 +159,8 @@ links-next state link rules most = elim (cases_lt link (length state.extents)) [
       let held = rules.extents.held in grind (arith, nat_tests, last, held))
 ]
 
-pub took-link : (state : State) (link : ℕ) (was then now : Calls) → IsState state → link ≤ length state.extents → Took (pages_of_links state link) 0 was then
-    → Took (pages_of_link state link) 0 then now → Took (pages_of_links state (link + 1)) 0 was now
+pub took-link : (state : State) (link : ℕ) (was then now : Calls) → IsState state → link ≤ length state.extents → Took (pages_of_links state link) 0 0 was then
+    → Took (pages_of_link state link) 0 0 then now → Took (pages_of_links state (link + 1)) 0 0 was now
 took-link state link was then now rules most one other =
     took-then (pages_of_links state link) (pages_of_link state link) (pages_of_links state (link + 1)) was then now (links-next state link rules most) one other
 
@@ -166,11 +169,74 @@ links-none : (state : State) → pages_of_links state 0 ≡ 0
 unfolding held_by
 links-none state = grind (arith, nat_tests)
 
-pub took-no_link : (state : State) (was : Calls) → Took (pages_of_links state 0) 0 was was
-took-no_link state was = subst (λ (n : ℕ). Took n 0 was was) (sym (links-none state)) (took-none was)
+pub took-no_link : (state : State) (was : Calls) → Took (pages_of_links state 0) 0 0 was was
+took-no_link state was = subst (λ (n : ℕ). Took n 0 0 was was) (sym (links-none state)) (took-none was)
 
 links-all : (state : State) (link : ℕ) → length state.extents < link → pages_of_links state link ≡ pages_from state.size 0
 links-all state link past = grind (arith, nat_tests)
 
-pub took-all : (state : State) (link : ℕ) (was now : Calls) → length state.extents < link → Took (pages_of_links state link) 0 was now → Took (pages_from state.size 0) 0 was now
-took-all state link was now past took = subst (λ (n : ℕ). Took n 0 was now) (links-all state link past) took
+pub took-all : (state : State) (link : ℕ) (was now : Calls) → length state.extents < link → Took (pages_of_links state link) 0 0 was now → Took (pages_from state.size 0) 0 0 was now
+took-all state link was now past took = subst (λ (n : ℕ). Took n 0 0 was now) (links-all state link past) took
+
+-- The first links hold over a content.
+abbrev pub HoldBelow : (ℕ → List ℕ) → State → ℕ → Type 0
+HoldBelow value state link = (i : ℕ) → i < link → value i ≡ kept state i
+
+-- one more does
+pub HoldBelow-next : (value : ℕ → List ℕ) (state : State) (link : ℕ) (want got : List ℕ) → want ≡ kept state link → want ≡ got → got ≡ value link
+    → HoldBelow value state link → HoldBelow value state (link + 1)
+HoldBelow-next value state link want got want_is same got_is before i below = elim (cases_lt i link) [
+  | inl earlier ↦ before i earlier
+  | inr here ↦ (let last : link ≡ i = omega (arith, below, here) in
+      subst (λ (k : ℕ). value k ≡ kept state k) last (sym got_is ∙ sym same ∙ want_is))
+]
+
+-- where the bytes of extents begin
+pub part_begin-extent : (state : State) (link : ℕ) → IsState state → link < length state.extents → part_begin state link ≡ page_bytes * held_by link
+part_begin-extent state link sound below =
+    let uses : UsesExtent state.size link = UsesExtent-HasShape state.size link _ sound.extents below in grind (arith, nat_tests, uses)
+
+-- and where each ends, the next begins
+pub part_begin-next : (state : State) (link : ℕ) → IsState state → link < length state.extents
+    → part_begin state (link + 1) ≡ part_begin state link + page_bytes * pages_used state.size link
+part_begin-next state link sound below =
+    let uses : UsesExtent state.size link = UsesExtent-HasShape state.size link _ sound.extents below in
+    let next = held_by-next link in
+    grind (arith, nat_tests, uses, next)
+
+-- the first begins at the front
+pub part_begin-none : (state : State) → part_begin state 0 ≡ 0
+unfolding held_by
+part_begin-none state = grind (arith, nat_tests)
+
+-- the tail begins behind the full pages
+pub part_begin-tail : (state : State) (link : ℕ) → IsState state → link ≡ length state.extents → part_begin state link ≡ page_bytes * (state.size / page_bytes)
+part_begin-tail state link sound last = let held = sound.extents.held in grind (arith, nat_tests, held, last)
+
+-- behind it the content ends
+pub part_begin-end : (state : State) (link : ℕ) → link ≡ length state.extents → part_begin state (link + 1) ≡ state.size
+part_begin-end state link last = grind (arith, nat_tests, last)
+
+-- no link's bytes begin behind the content
+pub part_begin-within : (state : State) (link : ℕ) → part_begin state link ≤ state.size
+part_begin-within state link = grind (arith, nat_tests)
+
+-- the bytes of a link in a content of the state's size, as a slice of it
+pub part-given : (state : State) (content part : List ℕ) (link begin end : ℕ) → IsState state → length content ≡ state.size → link ≤ length state.extents
+    → begin ≡ part_begin state link → end ≡ part_begin state (link + 1) → part ≡ take (end - begin) (drop begin content)
+    → link_value (λ _. part) part state link ≡ given content state link
+part-given state content part link begin end sound size_is most begin_is end_is is = elim (cases_lt link (length state.extents)) [
+  | inl below ↦
+      (let next = part_begin-next state link sound below in
+      let from : begin ≡ page_bytes * held_by link = begin_is ∙ part_begin-extent state link sound below in
+      let count : end - begin ≡ page_bytes * pages_used state.size link = omega (arith, end_is, begin_is, next) in
+      link_value-extent (λ _. part) (extent_part content state.size) part (rest_of content) state link below
+      (is ∙ ap (λ (n : ℕ). take n (drop begin content)) count ∙ ap (λ (n : ℕ). take (page_bytes * pages_used state.size link) (drop n content)) from))
+  | inr past ↦
+      (let last : link ≡ length state.extents = omega (arith, most, past) in
+      let from : begin ≡ page_bytes * (state.size / page_bytes) = begin_is ∙ part_begin-tail state link sound last in
+      let to : end ≡ state.size = end_is ∙ part_begin-end state link last in
+      link_value-tail (λ _. part) (extent_part content state.size) part (rest_of content) state link past
+      (is ∙ take_all (end - begin) (drop begin content) (omega (arith, to, size_is, length-drop begin content))
+      ∙ ap (λ (n : ℕ). drop n content) (omega (arith, from, size_is))))
+]

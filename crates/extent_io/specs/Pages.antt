@@ -4,10 +4,10 @@ use Rattle.store_model.specs.Disk.{Image, page_bytes}
 use Rattle.store_model.specs.Holds.{StandsAt, full_page, pages_from}
 use Rattle.store_model.specs.Shape.{held_by, pages_used}
 use Rattle.store_model.specs.State.{State}
-use Rattle.store_model.specs.Store.{Place}
+use Rattle.store_model.specs.Store.{Placement}
 
 -- the full pages from number `from` up to `to` read as these
-abbrev pub PagesRead : ℕ → Place → ℕ → ℕ → List (List ℕ) → Image → Type 0
+abbrev pub PagesRead : ℕ → Placement → ℕ → ℕ → List (List ℕ) → Image → Type 0
 PagesRead first place from to pages image =
     (page at : ℕ) → from ≤ page → page < to → StandsAt place page at → image (first + at) ≡ slice_index_or pages (page - from) []
 
@@ -30,3 +30,7 @@ pages_of_link state link = if nat_lt link (length state.extents) then pages_used
 -- how many pages the links before it read
 abbrev pub pages_of_links : State → ℕ → ℕ
 pages_of_links state link = if nat_lt (length state.extents) link then pages_from state.size 0 else min (held_by link) (state.size / page_bytes)
+
+-- where the bytes of a link begin in a content of the state's size; behind the last link, where the content ends
+abbrev pub part_begin : State → ℕ → ℕ
+part_begin state link = if nat_lt (length state.extents) link then state.size else page_bytes * min (held_by link) (state.size / page_bytes)

@@ -1,19 +1,18 @@
 // Reading bytes of a content.
 
 ghost use Rattle.std.specs.Prelude.{◌≡◌, ℕ, ◌+◌, ◌-◌, ◌*◌, ◌/◌, ◌%◌, ◌<◌, ◌≤◌, List, length, take, drop, min, IsTrue, IfOk, OnOk, IfErr};
-ghost use Rattle.blob_base.specs.Faults.{HasCause};
-ghost use Rattle.store_model.specs.Disk.{page_bytes};
-ghost use Rattle.store_model.specs.Holds.{Holds, Took, pages_across, place_of};
-ghost use Rattle.store_model.specs.Images.{Stayed};
+ghost use Rattle.disk_model.specs.Disks.{Caused, OnlyReads};
+ghost use Rattle.store_model.specs.Disk.{Took, page_bytes};
+ghost use Rattle.store_model.specs.Holds.{Holds, pages_across, place_of};
 ghost use Rattle.store_model.specs.Layout.{data_page, data_pages, total_pages};
 ghost use Rattle.store_model.specs.Shape.{greatest_size};
 ghost use Rattle.store_model.specs.Space.{AreBlocks, blocks_of};
 ghost use Rattle.extent_io.specs.Pages.{BeginsAs, FrontAs, bytes_before};
 
-use crate::places::{full_pages, stand, tail_bytes};
-use blob_base::IoFault;
+use crate::places::{full_pages, stand};
+use blob_base::{IoFault, PAGE_BYTES};
 use blob_state::BlobState;
-use disk_model::{Disk, Layout, PAGE_BYTES, Page};
+use disk_model::{Disk, Layout, Page};
 
 /// Reads the bytes of a state's content from `off` on into `into`, as many as there are and fit, and answers how many.
 /// Each page that has any of them is read once. After an `Err` nothing is said of the bytes in `into`.
@@ -26,17 +25,13 @@ pub fn gather<D: Disk>(
 ) -> Result<usize, IoFault>
     requires disk { total_pages layout ≤ D.size disk.old }
     requires within { AreBlocks (data_pages layout) (blocks_of (place_of state.now)) }
-    ensures bytes { IsTrue D.tells → (content : List ℕ) → length content ≡ state.now.size
-        → Holds (D.story disk.old).reads (data_page layout) (place_of state.now) content
+    ensures bytes { IsTrue D.tells → (content : List ℕ) → Holds (D.story disk.old).reads (data_page layout) state.now content
         → IfOk result (λ n. take n into.new ≡ take n (drop off content)) }
     ensures count { IfOk result (λ n. n ≡ min (length into.old) (state.now.size - off)) }
     ensures length { length into.new ≡ length into.old }
-    ensures reads { IsTrue D.tells → IfOk result (λ n. Took (pages_across off n) 0 (D.calls disk.old) (D.calls disk.new)) }
-    ensures images { IsTrue D.tells → Stayed (D.story disk.old) (D.story disk.new) }
-    ensures size { D.size disk.new ≡ D.size disk.old }
-    ensures faults { D.faults disk.old ≤ D.faults disk.new }
-    ensures cause { IfErr result (λ e. HasCause e (D.faults disk.old) (D.faults disk.new) (D.frugal disk.old)) }
-    ensures frugal { D.frugal disk.new ≡ D.frugal disk.old }
+    ensures reads { IsTrue D.tells → IfOk result (λ n. Took (pages_across off n) 0 0 (D.calls disk.old) (D.calls disk.new)) }
+    ensures only_reads { OnlyReads D.Disk disk.old disk.new }
+    ensures cause { Caused D.Disk disk.old disk.new result }
 {
     let count = (into.len() as u64).min(state.size().saturating_sub(off)) as usize;
     if count == 0 {
@@ -58,20 +53,15 @@ fn gather_pages<D: Disk>(
     requires within { AreBlocks (data_pages layout) (blocks_of (place_of state.now)) }
     requires some { 0 < length into.old }
     requires there { off + length into.old ≤ state.now.size }
-    ensures bytes { IsTrue D.tells → (content : List ℕ) → length content ≡ state.now.size
-        → Holds (D.story disk.old).reads (data_page layout) (place_of state.now) content
+    ensures bytes { IsTrue D.tells → (content : List ℕ) → Holds (D.story disk.old).reads (data_page layout) state.now content
         → OnOk result (FrontAs into.new off content (length into.old)) }
     ensures length { length into.new ≡ length into.old }
     ensures reads { IsTrue D.tells
-        → OnOk result (Took ((off + length into.old - 1) / page_bytes + 1 - off / page_bytes) 0 (D.calls disk.old) (D.calls disk.new)) }
-    ensures images { IsTrue D.tells → Stayed (D.story disk.old) (D.story disk.new) }
-    ensures size { D.size disk.new ≡ D.size disk.old }
-    ensures faults { D.faults disk.old ≤ D.faults disk.new }
-    ensures cause { IfErr result (λ e. HasCause e (D.faults disk.old) (D.faults disk.new) (D.frugal disk.old)) }
-    ensures frugal { D.frugal disk.new ≡ D.frugal disk.old }
+        → OnOk result (Took ((off + length into.old - 1) / page_bytes + 1 - off / page_bytes) 0 0 (D.calls disk.old) (D.calls disk.new)) }
+    ensures only_reads { OnlyReads D.Disk disk.old disk.new }
+    ensures cause { Caused D.Disk disk.old disk.new result }
 {
-    // The rules of the state bound its size.
-    let _full = full_pages(state);
+    state.rules();
     let first = (off / PAGE_BYTES as u64) as u32;
     let last = ((off + into.len() as u64 - 1) / PAGE_BYTES as u64) as u32;
     let mut page = [0; PAGE_BYTES];
@@ -93,17 +83,14 @@ fn read_page<D: Disk>(
     requires disk { total_pages layout ≤ D.size disk.old }
     requires within { AreBlocks (data_pages layout) (blocks_of (place_of state.now)) }
     requires number { page_bytes * number < state.now.size }
-    ensures bytes { IsTrue D.tells → OnOk result ((content : List ℕ) → length content ≡ state.now.size
-        → Holds (D.story disk.old).reads (data_page layout) (place_of state.now) content → BeginsAs into.new number content) }
-    ensures reads { IsTrue D.tells → OnOk result (Took 1 0 (D.calls disk.old) (D.calls disk.new)) }
-    ensures images { IsTrue D.tells → Stayed (D.story disk.old) (D.story disk.new) }
-    ensures size { D.size disk.new ≡ D.size disk.old }
-    ensures faults { D.faults disk.old ≤ D.faults disk.new }
-    ensures cause { IfErr result (λ e. HasCause e (D.faults disk.old) (D.faults disk.new) (D.frugal disk.old)) }
-    ensures frugal { D.frugal disk.new ≡ D.frugal disk.old }
+    ensures bytes { IsTrue D.tells → OnOk result ((content : List ℕ)
+        → Holds (D.story disk.old).reads (data_page layout) state.now content → BeginsAs into.new number content) }
+    ensures reads { IsTrue D.tells → OnOk result (Took 1 0 0 (D.calls disk.old) (D.calls disk.new)) }
+    ensures only_reads { OnlyReads D.Disk disk.old disk.new }
+    ensures cause { Caused D.Disk disk.old disk.new result }
 {
-    // Where bytes are left over, there is a tail page.
-    let _tail = tail_bytes(state);
+    state.rules();
+    layout.rules();
     if number < full_pages(state) {
         let at = stand(layout, state, number);
         return disk.read(layout.data() + at, into);

@@ -5,27 +5,27 @@ ghost use Rattle.store_model.specs.Disk.{page_bytes};
 ghost use Rattle.store_model.specs.Holds.{StandsAt, place_of};
 ghost use Rattle.store_model.specs.Layout.{data_pages};
 ghost use Rattle.store_model.specs.Space.{AreBlocks, blocks_of};
-ghost use Rattle.store_model.specs.State.{HasTail, IsState};
 
+use blob_base::PAGE_BYTES;
 use blob_state::BlobState;
-use disk_model::{Layout, PAGE_BYTES};
+use disk_model::Layout;
 use tier_table::{MAX_PAGES, place};
 
-/// How many full pages the content of a state has. The rules that each state keeps are a clause here.
+/// How many full pages the content of a state has.
 pub(crate) fn full_pages(state: &BlobState) -> u32
     ensures value { result ≡ state.now.size / page_bytes }
     ensures most { result ≤ MAX_PAGES }
-    ensures rules { IsState state.now }
 {
+    state.rules();
     (state.size() / PAGE_BYTES as u64) as u32
 }
 
 /// How many bytes of the content stand on its tail page.
-pub(crate) fn tail_bytes(state: &BlobState) -> usize
+pub(crate) fn tail_length(state: &BlobState) -> usize
     ensures value { result ≡ state.now.size % page_bytes }
     ensures most { result < page_bytes }
-    ensures tail { HasTail state.now.size state.now.tail }
 {
+    state.rules();
     (state.size() % PAGE_BYTES as u64) as usize
 }
 
@@ -36,9 +36,8 @@ pub(crate) fn stand(layout: Layout, state: &BlobState, number: u32) -> u32
     ensures stands { StandsAt (place_of state.now) number result }
     ensures within { result < data_pages layout }
 {
-    // The rules of the state and of the layout bound the sum.
-    let _full = full_pages(state);
-    let _pages = layout.total();
+    state.rules();
+    layout.rules();
     let lies = place(number);
     state.extents()[lies.extent as usize].head + lies.offset
 }

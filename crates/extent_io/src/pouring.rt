@@ -1,18 +1,17 @@
 // Writing a content.
 
 ghost use Rattle.std.specs.Prelude.{◌≡◌, ℕ, ◌+◌, ◌-◌, ◌*◌, ◌/◌, ◌%◌, ◌<◌, ◌≤◌, List, length, drop, min, Some, IsTrue, OnOk, IfErr};
-ghost use Rattle.blob_base.specs.Faults.{HasCause};
-ghost use Rattle.store_model.specs.Disk.{page_bytes, page_of};
-ghost use Rattle.store_model.specs.Holds.{Holds, HoldsFront, IsFullPage, IsPoured, IsTailPage, Took, pages_from, place_of, rest_of};
-ghost use Rattle.store_model.specs.Images.{Wrote};
+ghost use Rattle.disk_model.specs.Disks.{Caused, OnlyWrites};
+ghost use Rattle.store_model.specs.Disk.{Took, page_bytes, page_of};
+ghost use Rattle.store_model.specs.Holds.{Holds, HoldsFront, IsFullPage, IsPoured, IsTailPage, pages_from, place_of, rest_of};
 ghost use Rattle.store_model.specs.Layout.{data_page, data_pages, total_pages};
 ghost use Rattle.store_model.specs.Space.{Apart, AreBlocks, blocks_of};
 ghost use Rattle.extent_io.specs.Pages.{PagesRead};
 
-use crate::places::{full_pages, stand, tail_bytes};
-use blob_base::IoFault;
+use crate::places::{full_pages, stand, tail_length};
+use blob_base::{IoFault, PAGE_BYTES};
 use blob_state::BlobState;
-use disk_model::{Disk, Layout, PAGE_BYTES, Page};
+use disk_model::{Disk, Layout, Page};
 
 /// Writes a content to the places of its state: its full pages from number `from_page` on, and its tail page, filled with
 /// zeros. `rest` is the content from byte `4096 * from_page` on. After an `Err` some of these pages may have been
@@ -34,23 +33,21 @@ pub fn pour<D: Disk>(
     ensures holds { IsTrue D.tells → (content : List ℕ) → length content ≡ state.now.size
         → rest.now ≡ drop (page_bytes * from_page) content
         → HoldsFront from_page (D.story disk.old).reads (data_page layout) (place_of state.now) content
-        → OnOk result (Holds (D.story disk.new).reads (data_page layout) (place_of state.now) content) }
+        → OnOk result (Holds (D.story disk.new).reads (data_page layout) state.now content) }
 
     // The tail page has zeros behind the content's last bytes.
     ensures filled { IsTrue D.tells → OnOk result ((page : ℕ) → state.now.tail ≡ Some page
         → (D.story disk.new).reads (data_page layout + page) ≡ page_of (rest_of rest.now)) }
 
     // No other page has changed, and a crash leaves each other page as before.
-    ensures wrote { IsTrue D.tells → Wrote (IsPoured layout state.now from_page) (D.story disk.old) (D.story disk.new) }
+    ensures wrote { OnlyWrites D.Disk (IsPoured layout state.now from_page) disk.old disk.new }
 
     // Each page is written once.
     ensures writes { IsTrue D.tells
-        → OnOk result (Took 0 (pages_from state.now.size from_page) (D.calls disk.old) (D.calls disk.new)) }
-    ensures size { D.size disk.new ≡ D.size disk.old }
-    ensures faults { D.faults disk.old ≤ D.faults disk.new }
-    ensures cause { IfErr result (λ e. HasCause e (D.faults disk.old) (D.faults disk.new) (D.frugal disk.old)) }
-    ensures frugal { D.frugal disk.new ≡ D.frugal disk.old }
+        → OnOk result (Took 0 (pages_from state.now.size from_page) 0 (D.calls disk.old) (D.calls disk.new)) }
+    ensures cause { Caused D.Disk disk.old disk.new result }
 {
+    state.rules();
     let (pages, end) = rest.as_chunks::<PAGE_BYTES>();
     pour_full(disk, layout, state, from_page, pages)?;
     pour_tail(disk, layout, state, end)
@@ -69,14 +66,12 @@ fn pour_full<D: Disk>(
     requires apart { Apart (blocks_of (place_of state.now)) }
     requires pages { from_page + length pages.now ≡ state.now.size / page_bytes }
     ensures reads { IsTrue D.tells → OnOk result (PagesRead (data_page layout) (place_of state.now) from_page (state.now.size / page_bytes) pages.now (D.story disk.new).reads) }
-    ensures wrote { IsTrue D.tells
-        → Wrote (IsFullPage (data_page layout) (place_of state.now) from_page (state.now.size / page_bytes)) (D.story disk.old) (D.story disk.new) }
-    ensures calls { IsTrue D.tells → OnOk result (Took 0 (length pages.now) (D.calls disk.old) (D.calls disk.new)) }
-    ensures size { D.size disk.new ≡ D.size disk.old }
-    ensures faults { D.faults disk.old ≤ D.faults disk.new }
-    ensures cause { IfErr result (λ e. HasCause e (D.faults disk.old) (D.faults disk.new) (D.frugal disk.old)) }
-    ensures frugal { D.frugal disk.new ≡ D.frugal disk.old }
+    ensures wrote { OnlyWrites D.Disk
+        (IsFullPage (data_page layout) (place_of state.now) from_page (state.now.size / page_bytes)) disk.old disk.new }
+    ensures calls { IsTrue D.tells → OnOk result (Took 0 (length pages.now) 0 (D.calls disk.old) (D.calls disk.new)) }
+    ensures cause { Caused D.Disk disk.old disk.new result }
 {
+    layout.rules();
     let full = full_pages(state);
     for number in from_page..full {
         let at = stand(layout, state, number);
@@ -107,16 +102,15 @@ fn pour_tail<D: Disk>(
     requires end { length end.now ≡ state.now.size % page_bytes }
     ensures reads { IsTrue D.tells → OnOk result ((page : ℕ) → state.now.tail ≡ Some page
         → (D.story disk.new).reads (data_page layout + page) ≡ page_of end.now) }
-    ensures wrote { IsTrue D.tells → Wrote (IsTailPage (data_page layout) (place_of state.now)) (D.story disk.old) (D.story disk.new) }
-    ensures calls { IsTrue D.tells → OnOk result (Took 0 (min 1 (state.now.size % page_bytes)) (D.calls disk.old) (D.calls disk.new)) }
-    ensures size { D.size disk.new ≡ D.size disk.old }
-    ensures faults { D.faults disk.old ≤ D.faults disk.new }
-    ensures cause { IfErr result (λ e. HasCause e (D.faults disk.old) (D.faults disk.new) (D.frugal disk.old)) }
-    ensures frugal { D.frugal disk.new ≡ D.frugal disk.old }
+    ensures wrote { OnlyWrites D.Disk (IsTailPage (data_page layout) (place_of state.now)) disk.old disk.new }
+    ensures calls { IsTrue D.tells → OnOk result (Took 0 (min 1 (state.now.size % page_bytes)) 0 (D.calls disk.old) (D.calls disk.new)) }
+    ensures cause { Caused D.Disk disk.old disk.new result }
 {
-    let bytes = tail_bytes(state);
+    layout.rules();
+    state.rules();
+    let length = tail_length(state);
     match state.tail() {
-        Some(page) => disk.write(layout.data() + page, &filled(&end[..bytes])),
+        Some(page) => disk.write(layout.data() + page, &filled(&end[..length])),
         None => Ok(()),
     }
 }

@@ -54,13 +54,23 @@ impl MemSource {
 }
 
 impl Source for MemSource {
+    ghost use Rattle.std.specs.Io.KnownBytes.{ReadConsumes};
+    ghost use Rattle.blob_base.specs.Faults.{HasCause, KeepsEnd};
+    ghost use Rattle.io_ends.specs.Memory.{ReadAsChosen, source_faults, source_frugal, source_left, source_tells};
+
     ghost left = { λ source. Some (drop source.given source.bytes) };
 
     ghost faults = { λ source. source.faults };
 
     ghost frugal = { λ _. true };
 
-    fn read(&mut self, into: &mut [u8]) -> Result<usize, IoFault> {
+    fn read(&mut self, into: &mut [u8]) -> Result<usize, IoFault>
+        ensures count { IfOk result (λ n. n ≡ min (min (length (source_left self.old)) self.old.piece) (length into.new)) }
+        ensures bytes { ReadConsumes (source_tells self.old) (source_tells self.new) result into.new }
+        ensures keeps { KeepsEnd source_faults source_frugal self.old self.new }
+        ensures cause { HasCause source_faults source_frugal self.old self.new result }
+        ensures chosen { ReadAsChosen self.old self.new result }
+    {
         self.calls = next_count(self.calls);
         if is_to_fail(&self.fails, self.calls) {
             self.faults = next_count(self.faults);
@@ -110,13 +120,23 @@ impl MemSink {
 }
 
 impl Sink for MemSink {
+    ghost use Rattle.std.specs.Io.KnownBytes.{WriteAppends};
+    ghost use Rattle.blob_base.specs.Faults.{HasCause, KeepsEnd};
+    ghost use Rattle.io_ends.specs.Memory.{WrittenAsChosen, sink_faults, sink_frugal, sink_tells};
+
     ghost taken = { λ sink. Some sink.taken };
 
     ghost faults = { λ sink. sink.faults };
 
     ghost frugal = { λ _. false };
 
-    fn write(&mut self, piece: &[u8]) -> Result<usize, IoFault> {
+    fn write(&mut self, piece: &[u8]) -> Result<usize, IoFault>
+        ensures all { IfOk result (λ n. n ≡ length piece.now) }
+        ensures bytes { WriteAppends (sink_tells self.old) (sink_tells self.new) result piece.now }
+        ensures keeps { KeepsEnd sink_faults sink_frugal self.old self.new }
+        ensures cause { HasCause sink_faults sink_frugal self.old self.new result }
+        ensures chosen { WrittenAsChosen self.old self.new result }
+    {
         self.calls = next_count(self.calls);
         if is_to_fail(&self.fails, self.calls) {
             self.faults = next_count(self.faults);

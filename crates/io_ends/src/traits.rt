@@ -2,9 +2,9 @@
 // in it. A frugal end never answers `OutOfMemory`. No call changes whether an end is frugal, and what an end tells
 // stays told.
 
-ghost use Rattle.std.specs.Prelude.{◌≡◌, ℕ, Bool, List, Option, ◌<◌, ◌≤◌, length, IfOk, IfErr};
+ghost use Rattle.std.specs.Prelude.{ℕ, Bool, List, Option, ◌<◌, ◌≤◌, length, IfOk};
 ghost use Rattle.std.specs.Io.KnownBytes.{ReadConsumes, WriteAppends};
-ghost use Rattle.blob_base.specs.Faults.{HasCause};
+ghost use Rattle.blob_base.specs.Faults.{HasCause, KeepsEnd};
 
 use blob_base::IoFault;
 
@@ -24,9 +24,8 @@ pub trait Source {
         requires { 0 < length into.old }
         ensures count { IfOk result (λ n. n ≤ length into.new) }
         ensures bytes { ReadConsumes (left self.old) (left self.new) result into.new }
-        ensures faults { faults self.old ≤ faults self.new }
-        ensures cause { IfErr result (λ e. HasCause e (faults self.old) (faults self.new) (frugal self.old)) }
-        ensures frugal { frugal self.new ≡ frugal self.old };
+        ensures keeps { KeepsEnd faults frugal self.old self.new }
+        ensures cause { HasCause faults frugal self.old self.new result };
 }
 
 /// Where bytes go.
@@ -46,7 +45,6 @@ pub trait Sink {
         ensures some { IfOk result (λ n. 0 < n) }
         ensures count { IfOk result (λ n. n ≤ length piece.now) }
         ensures bytes { WriteAppends (taken self.old) (taken self.new) result piece.now }
-        ensures faults { faults self.old ≤ faults self.new }
-        ensures cause { IfErr result (λ e. HasCause e (faults self.old) (faults self.new) (frugal self.old)) }
-        ensures frugal { frugal self.new ≡ frugal self.old };
+        ensures keeps { KeepsEnd faults frugal self.old self.new }
+        ensures cause { HasCause faults frugal self.old self.new result };
 }

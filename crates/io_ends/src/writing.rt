@@ -1,8 +1,8 @@
 // Writing all of a piece.
 
-ghost use Rattle.std.specs.Prelude.{◌≡◌, ◌<◌, ◌≤◌, length, take, IfErr, OnOk};
+ghost use Rattle.std.specs.Prelude.{◌<◌, length, take, IfErr, OnOk};
 ghost use Rattle.std.specs.Io.KnownBytes.{Appends};
-ghost use Rattle.blob_base.specs.Faults.{HasCause};
+ghost use Rattle.blob_base.specs.Faults.{CameFrom, KeepsEnd};
 ghost use Rattle.blob_base.specs.declared.faults.IoFault.TheVariants.{Failed};
 
 use crate::Sink;
@@ -20,9 +20,8 @@ pub fn put_all<K: Sink>(sink: &mut K, piece: &[u8]) -> Result<(), PutFault>
     ensures ok { OnOk result (Appends (K.taken sink.old) (K.taken sink.new) piece.now) }
     ensures gone { IfErr result (λ fault. fault.gone < length piece.now) }
     ensures front { IfErr result (λ fault. Appends (K.taken sink.old) (K.taken sink.new) (take fault.gone piece.now)) }
-    ensures faults { K.faults sink.old ≤ K.faults sink.new }
-    ensures cause { IfErr result (λ fault. HasCause fault.cause (K.faults sink.old) (K.faults sink.new) (K.frugal sink.old)) }
-    ensures frugal { K.frugal sink.new ≡ K.frugal sink.old }
+    ensures keeps { KeepsEnd K.faults K.frugal sink.old sink.new }
+    ensures cause { IfErr result (λ fault. CameFrom fault.cause (K.faults sink.old) (K.faults sink.new) (K.frugal sink.old)) }
 {
     let mut gone = 0;
     while gone < piece.len() {

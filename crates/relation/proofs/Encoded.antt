@@ -5,12 +5,12 @@ use Rattle.std.specs.Prelude.{slice_get}
 use Rattle.store_model.specs.State.{State}
 use Rattle.store_model.specs.Tuple.{spelling}
 use Rattle.store_model.specs.Key.{key_order}
-use Rattle.std.specs.FinMap.{FinMap, entries-from_sorted, from_sorted}
+use Rattle.std.specs.FinMap.{FinMap, entries-from_sorted, from_sorted, insert}
 use Rattle.std.specs.FinMap.Entries.{put}
 use Rattle.relation.specs.Entries.{AllBefore, AllBehind, IsAt, are_sorted, entries_of, entry_of}
 use Rattle.relation.specs.Parts.{encoded_by, encoded_bytes}
 use Rattle.relation.specs.declared.entries.Entry.{Entry}
-use Rattle.relation.proofs.Relations.{entries-without, found-key, found-within, sorted-put}
+use Rattle.relation.proofs.Relations.{entries-without, found-key, found-within, insert-put, sorted-put}
 use Rattle.relation.proofs.Searches.{slice_get-entries}
 use Rattle.store_model.proofs.SortedLaws.{put-new, put-old}
 
@@ -43,10 +43,12 @@ encoded-old (f ∷ es) (suc i) one e is = omega (arith, encoded-old es i one e i
 pub encoded-sorted : (es : List (List ℕ × State)) → are_sorted es → encoded_by (from_sorted {R = key_order} es) ≡ encoded_bytes es
 encoded-sorted es sorted = ap encoded_bytes (entries-from_sorted key_order es sorted)
 
--- what they take after a put that adds at most so much
-pub encoded-grown : (es fs : List (List ℕ × State)) (k : List ℕ) (v : State) (m : FinMap key_order State) (more : ℕ) → are_sorted es → fs ≡ put key_order k v es → from_sorted {R = key_order} es ≡ m → encoded_bytes fs ≤ encoded_bytes es + more
-    → encoded_by (from_sorted {R = key_order} fs) ≤ encoded_by m + more
-encoded-grown es fs k v m more sorted is same le = omega (arith, le, encoded-sorted es sorted, ap encoded_by same, encoded-sorted fs (sorted-put es fs k v sorted is))
+-- what they take after a put
+pub encoded-put : (es fs : List (List ℕ × State)) (k : List ℕ) (v : State) (m : FinMap key_order State) → are_sorted es → fs ≡ put key_order k v es → from_sorted {R = key_order} es ≡ m
+    → encoded_bytes fs ≡ encoded_by (insert m k v)
+encoded-put es fs k v m sorted is same =
+    sym (encoded-sorted fs (sorted-put es fs k v sorted is)) ∙ ap encoded_by (insert-put es fs k v sorted is)
+    ∙ ap (λ (n : FinMap key_order State). encoded_by (insert n k v)) same
 
 -- the entry that a key was found at
 pub found-entry : (kept seen : List Entry) (i : ℕ) (key : List ℕ) (d one : Entry) → seen ≡ kept → IsAt (entries_of seen) key i → one ≡ get_or kept i d → slice_get (entries_of kept) i ≡ Some (key, one.state.value)

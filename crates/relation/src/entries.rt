@@ -17,7 +17,9 @@ pub(crate) struct Entry {
 /// Where a key stands among entries in the order of their keys, or where it would.
 pub(crate) fn search(entries: &[Entry], key: &Key) -> Result<usize, usize>
     requires { are_sorted (entries_of entries.now) }
-    ensures found { MatchResult result (IsAt (entries_of entries.now) key.now) (λ i. (i ≤ length entries.now) × AllBefore (entries_of entries.now) i key.now × AllBehind (entries_of entries.now) i key.now) }
+    ensures found { MatchResult result (IsAt (entries_of entries.now) key.now) (λ i.
+        (i ≤ length entries.now) × AllBefore (entries_of entries.now) i key.now
+        × AllBehind (entries_of entries.now) i key.now) }
 {
     let mut low = 0;
     let mut high = entries.len();

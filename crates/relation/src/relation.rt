@@ -2,13 +2,15 @@
 
 ghost use Rattle.std.specs.Prelude.{◌≡◌, ◌+◌, ◌-◌, ◌^◌, ◌<◌, ◌≤◌, ◌==◌, ◌⊎◌, Some, IsTrue, if◌then◌else◌, slice_get, option_copied, vec_len, vec_capacity, IfOk, OnOk, OnErr};
 ghost use Rattle.std.specs.FinMap as map;
+ghost use Rattle.store_model.specs.Tuple.{greatest_tuple};
 ghost use Rattle.relation.specs.Parts.{blocks_by, encoded_by, owned_by};
 ghost use Rattle.relation.specs.Entries.{entries_of};
 
 use crate::entries::{Entry, search};
 use arrayvec::ArrayVec;
 use blob_base::{Key, OutOfMemory, Owned};
-use blob_state::{BlobState, Draft};
+use blob_state::{BlobState, StateParts};
+use sha_resume::Digest;
 use std::alloc::Global;
 use std::marker::Model;
 use std::mem;
@@ -40,10 +42,15 @@ impl Model for Relation {
 
 // A state for a place that has none yet.
 fn blank() -> BlobState {
-    match Draft::put(&[]) {
-        Ok(draft) => draft.place(&ArrayVec::new(), None, 1),
-        Err(_) => unreachable!(),
-    }
+    let zeros = [0; 32];
+    BlobState::from_parts(StateParts {
+        size: 0,
+        born: 1,
+        digest: Digest { bytes: zeros },
+        prefix: zeros,
+        extents: ArrayVec::new(),
+        tail: None,
+    })
 }
 
 // Adds free places until there are `n`.
@@ -134,14 +141,14 @@ impl Relation {
         Ok(())
     }
 
-    /// Sets the state of a key. Where the key isn't there, this takes a spare place. A state takes at most 4717 bytes where
-    /// it is stored.
+    /// Sets the state of a key. Where the key isn't there, this takes a spare place.
     pub fn set(&mut self, key: Key, state: BlobState)
         requires spare { IsTrue (map.contains_key self.old.states key) ⊎ (1 ≤ self.old.spare) }
-        requires bytes { encoded_by self.old.states ≤ 2 ^ 61 }
+        requires bytes { encoded_by (map.insert self.old.states key state) < 2 ^ 62 }
         ensures states { self.new.states ≡ map.insert self.old.states key state }
-        ensures spare { self.new.spare ≡ (if map.contains_key self.old.states key then self.old.spare else self.old.spare - 1) }
-        ensures bytes { encoded_by self.new.states ≤ encoded_by self.old.states + 4717 }
+        ensures spare { self.new.spare
+            ≡ (if map.contains_key self.old.states key then self.old.spare else self.old.spare - 1) }
+        ensures bytes { encoded_by self.new.states ≤ encoded_by self.old.states + greatest_tuple }
     {
         let longer = state.encoded(&key) as u64;
         match search(&self.entries, &key) {

@@ -8,7 +8,7 @@ use Rattle.std.proofs.Math.Seq.{take-append-add}
 use Rattle.std.proofs.lemmas.List.Sums.{fold-append}
 use Rattle.std.proofs.lemmas.Grind.{flat_map-append}
 use Rattle.std.proofs.lemmas.Slice.{take-put_mid}
-use Rattle.sha2.specs.Sha256.{compress}
+use Rattle.store_model.specs.BlockFunction.{compress}
 use Rattle.store_model.specs.Hash.{Leads, blocks, bytes_of_state, close, padding, state_after}
 use Rattle.store_model.proofs.HashLaws.{blocks-next, state_after-append}
 use borrow.Rule.Slice.PartMut.{put_mid}

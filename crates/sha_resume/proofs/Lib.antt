@@ -1,3 +1,4 @@
 pub mod Words
+pub mod Schedule
 pub mod Ends
 pub mod Agreement

@@ -12,7 +12,7 @@
 #![tactic(auto)]
 
 ghost use Rattle.std.specs.Prelude.{◌≡◌, ℕ, ◌+◌, ◌*◌, ◌/◌, ◌%◌, ◌^◌, ◌<◌, List, ◌++◌, length};
-ghost use Rattle.sha2.specs.Sha256.{sha256 as library_sha256};
+ghost use Rattle.sha2.specs.Sha256.{hash_after, sha256 as library_sha256};
 ghost use Rattle.store_model.specs.Hash.{Leads, bytes_of_state, close, initial_state, padding, sha256, state_after};
 
 use block::{BLOCK_LEN, compress};
@@ -76,6 +76,9 @@ impl Chain {
         // What was taken in before, from any state, and `bytes` after it.
         ensures longer { (h before : List ℕ) → length before % 64 ≡ 0 → Leads h before self.old.mark
             → Leads h (before ++ bytes.now) self.new.mark }
+
+        // The same by the block function of the library's crate `sha2`.
+        ensures agrees { self.new.mark ≡ hash_after self.old.mark bytes.now (length bytes.now / 64) }
     {
         fold_blocks(&mut self.state, bytes);
         self.count += (bytes.len() / BLOCK_LEN) as u64;

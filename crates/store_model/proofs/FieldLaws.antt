@@ -1,13 +1,13 @@
 -- Laws of fields: what stands at an offset of some bytes, which fields are good, and which is the first that is broken.
-use Rattle.std.proofs.Common.{◌≡◌, ℕ, ◌+◌, ◌^◌, ◌<◌, ◌≤◌, ◌⊎◌, inl, inr, Bool, false, List, [], ◌∷◌, ◌++◌, length, take, drop, get_or, refl, sym, ap, ◌∙◌, arith, length-append, length-drop}
+use Rattle.std.proofs.Common.{◌≡◌, ℕ, ◌+◌, ◌^◌, ◌<◌, ◌≤◌, inl, inr, Bool, false, List, [], ◌∷◌, ◌++◌, length, take, drop, get_or, refl, sym, ap, ◌∙◌, arith, length-append, length-drop}
 use Rattle.std.specs.Prelude.{slice_index, Contains, IsTrue}
 use Rattle.std.specs.Int.{w32, w64, from_be_bytes, to_be_bytes}
-use Rattle.std.specs.List.{All, AllByRecursion}
+use Rattle.std.specs.List.{All}
 use Rattle.std.proofs.lemmas.Bool.{both_ways, cases_lt}
 use Rattle.std.proofs.lemmas.List.{append_assoc, drop-drop, drop-take, drop_at, drop_more, get_or-drop, get_or-take, get_or_past, length-take, length-take-le, take-append-drop, take-take, take_at}
 use Rattle.std.proofs.lemmas.List.Elements.{All-cons, All-contains, All-contains_itself, All-weaker}
 use Rattle.std.proofs.lemmas.Nat.{be_bytes_4, be_bytes_8, from_be_bytes-to_be_bytes_4, from_be_bytes-to_be_bytes_8}
-use Rattle.store_model.specs.Field.{BreaksRule, Bytes, Field, IsCutShort, IsFirstBroken, IsGood, KeyText, Number}
+use Rattle.store_model.specs.Field.{AreGood, Bytes, Field, IsBroken, IsFirstBroken, IsGood, KeyText, Number, told_four}
 use Rattle.store_model.specs.Key.{IsBadAt}
 
 -- numbers that are bytes
@@ -15,41 +15,30 @@ abbrev pub AreBytes : List ℕ → Type 0
 AreBytes bytes = (i : ℕ) → slice_index bytes i < 256
 
 -- this text stands at that offset
-pub record Stands (stored : List ℕ) (at : ℕ) (text : List ℕ) : Type 0 where
+pub record TextStands (stored : List ℕ) (at : ℕ) (text : List ℕ) : Type 0 where
   pub whole : at + length text ≤ length stored
   pub bytes : take (length text) (drop at stored) ≡ text
 
--- the numbers that the bytes at an offset tell
-abbrev pub told_four : List ℕ → ℕ → ℕ
-told_four stored at = from_be_bytes w32 (take 4 (drop at stored))
-
+-- the number that the eight bytes at an offset tell
 abbrev pub told_eight : List ℕ → ℕ → ℕ
 told_eight stored at = from_be_bytes w64 (take 8 (drop at stored))
 
--- all of the fields are good
-abbrev pub AreGood : List ℕ → List Field → Type 0
-AreGood stored fields = AllByRecursion (IsGood stored) fields
-
--- the field is cut short or breaks its rule, and this offset names it
-abbrev pub IsBroken : List ℕ → Field → ℕ → Type 0
-IsBroken stored field at = IsCutShort stored field at ⊎ BreaksRule stored field at
-
 -- a text at the front
-pub Stands-start : (stored text rest : List ℕ) → stored ≡ text ++ rest → Stands stored 0 text
-Stands-start stored text rest is =
+pub TextStands-start : (stored text rest : List ℕ) → stored ≡ text ++ rest → TextStands stored 0 text
+TextStands-start stored text rest is =
     record {
       whole = omega (arith, ap length is, length-append text rest);
       bytes = ap (take (length text)) is ∙ take_at text rest (length text) refl;
     }
 
 -- what follows a text at the front
-pub Stands-rest : (stored text : List ℕ) → Stands stored 0 text → stored ≡ text ++ drop (length text) stored
-Stands-rest stored text stands =
+pub TextStands-rest : (stored text : List ℕ) → TextStands stored 0 text → stored ≡ text ++ drop (length text) stored
+TextStands-rest stored text stands =
     sym (take-append-drop (length text) stored) ∙ ap (λ (xs : List ℕ). xs ++ drop (length text) stored) stands.bytes
 
 -- the front of a text, and what is behind its front
-pub Stands-front : (stored : List ℕ) (at : ℕ) (a b : List ℕ) → Stands stored at (a ++ b) → Stands stored at a
-Stands-front stored at a b stands =
+pub TextStands-front : (stored : List ℕ) (at : ℕ) (a b : List ℕ) → TextStands stored at (a ++ b) → TextStands stored at a
+TextStands-front stored at a b stands =
     let long : length (a ++ b) ≡ length a + length b = length-append a b in
     record {
       whole = omega (arith, stands.whole);
@@ -57,8 +46,8 @@ Stands-front stored at a b stands =
           ∙ take_at a b (length a) refl;
     }
 
-pub Stands-back : (stored : List ℕ) (at : ℕ) (a b : List ℕ) → Stands stored at (a ++ b) → Stands stored (at + length a) b
-Stands-back stored at a b stands =
+pub TextStands-back : (stored : List ℕ) (at : ℕ) (a b : List ℕ) → TextStands stored at (a ++ b) → TextStands stored (at + length a) b
+TextStands-back stored at a b stands =
     let long : length (a ++ b) ≡ length a + length b = length-append a b in
     record {
       whole = omega (arith, stands.whole);
@@ -73,8 +62,8 @@ take-plus m n xs =
     ∙ ap (λ (ys : List ℕ). take m xs ++ ys) (drop-take m n xs)
 
 -- two texts, one behind the other
-pub Stands-append : (stored : List ℕ) (at : ℕ) (a b : List ℕ) → Stands stored at a → Stands stored (at + length a) b → Stands stored at (a ++ b)
-Stands-append stored at a b one other =
+pub TextStands-append : (stored : List ℕ) (at : ℕ) (a b : List ℕ) → TextStands stored at a → TextStands stored (at + length a) b → TextStands stored at (a ++ b)
+TextStands-append stored at a b one other =
     let long : length (a ++ b) ≡ length a + length b = length-append a b in
     let second : take (length b) (drop (length a) (drop at stored)) ≡ b = ap (take (length b)) (drop-drop (length a) at stored) ∙ other.bytes in
     record {
@@ -84,12 +73,12 @@ Stands-append stored at a b one other =
     }
 
 -- no text
-pub Stands-none : (stored : List ℕ) (at : ℕ) → at ≤ length stored → Stands stored at []
-Stands-none stored at within = record { whole = omega arith; bytes = refl }
+pub TextStands-none : (stored : List ℕ) (at : ℕ) → at ≤ length stored → TextStands stored at []
+TextStands-none stored at within = record { whole = omega arith; bytes = refl }
 
 -- bytes that are there whole
-pub Stands-bytes : (stored : List ℕ) (at n : ℕ) (text : List ℕ) → at + n ≤ length stored → text ≡ take n (drop at stored) → Stands stored at text
-Stands-bytes stored at n text whole is =
+pub TextStands-bytes : (stored : List ℕ) (at n : ℕ) (text : List ℕ) → at + n ≤ length stored → text ≡ take n (drop at stored) → TextStands stored at text
+TextStands-bytes stored at n text whole is =
     let long : length text ≡ n = ap length is ∙ length-take-le n (drop at stored) (omega (arith, length-drop at stored)) in
     record { whole = omega arith; bytes = ap (λ (m : ℕ). take m (drop at stored)) long ∙ sym is }
 
@@ -122,32 +111,32 @@ to_be_bytes-four stored at n bytes within is =
     (is ∙ ap (from_be_bytes w32) (sym (take-four stored at within)))
 
 -- numbers, from their bytes and back
-pub told_four-stands : (stored : List ℕ) (at n : ℕ) → n < 2 ^ 32 → Stands stored at (to_be_bytes w32 n) → told_four stored at ≡ n
+pub told_four-stands : (stored : List ℕ) (at n : ℕ) → n < 2 ^ 32 → TextStands stored at (to_be_bytes w32 n) → told_four stored at ≡ n
 told_four-stands stored at n low stands = ap (from_be_bytes w32) stands.bytes ∙ from_be_bytes-to_be_bytes_4 n low
 
-pub told_eight-stands : (stored : List ℕ) (at n : ℕ) → n < 2 ^ 64 → Stands stored at (to_be_bytes w64 n) → told_eight stored at ≡ n
+pub told_eight-stands : (stored : List ℕ) (at n : ℕ) → n < 2 ^ 64 → TextStands stored at (to_be_bytes w64 n) → told_eight stored at ≡ n
 told_eight-stands stored at n low stands = ap (from_be_bytes w64) stands.bytes ∙ from_be_bytes-to_be_bytes_8 n low
 
-pub Stands-four : (stored : List ℕ) (at n : ℕ) → AreBytes stored → at + 4 ≤ length stored → n ≡ told_four stored at → Stands stored at (to_be_bytes w32 n)
-Stands-four stored at n bytes whole is =
-    Stands-bytes stored at 4 (to_be_bytes w32 n) whole
+pub TextStands-four : (stored : List ℕ) (at n : ℕ) → AreBytes stored → at + 4 ≤ length stored → n ≡ told_four stored at → TextStands stored at (to_be_bytes w32 n)
+TextStands-four stored at n bytes whole is =
+    TextStands-bytes stored at 4 (to_be_bytes w32 n) whole
     (be_bytes_4 (take 4 (drop at stored)) n (length-take-le 4 (drop at stored) (omega (arith, length-drop at stored))) (part-bytes stored at 4 bytes) is)
 
-pub Stands-eight : (stored : List ℕ) (at n : ℕ) → AreBytes stored → at + 8 ≤ length stored → n ≡ told_eight stored at → Stands stored at (to_be_bytes w64 n)
-Stands-eight stored at n bytes whole is =
-    Stands-bytes stored at 8 (to_be_bytes w64 n) whole
+pub TextStands-eight : (stored : List ℕ) (at n : ℕ) → AreBytes stored → at + 8 ≤ length stored → n ≡ told_eight stored at → TextStands stored at (to_be_bytes w64 n)
+TextStands-eight stored at n bytes whole is =
+    TextStands-bytes stored at 8 (to_be_bytes w64 n) whole
     (be_bytes_8 (take 8 (drop at stored)) n (length-take-le 8 (drop at stored) (omega (arith, length-drop at stored))) (part-bytes stored at 8 bytes) is)
 
 -- a field whose number or bytes stand there
-pub IsGood-four : (stored : List ℕ) (at n : ℕ) (test : ℕ → Bool) → n < 2 ^ 32 → IsTrue (test n) → Stands stored at (to_be_bytes w32 n)
+pub IsGood-four : (stored : List ℕ) (at n : ℕ) (test : ℕ → Bool) → n < 2 ^ 32 → IsTrue (test n) → TextStands stored at (to_be_bytes w32 n)
     → IsGood stored (record { at = at; bytes = 4; rule = Number w32 test })
 IsGood-four stored at n test low passes stands = record { whole = stands.whole; kept = ap test (told_four-stands stored at n low stands) ∙ passes }
 
-pub IsGood-eight : (stored : List ℕ) (at n : ℕ) (test : ℕ → Bool) → n < 2 ^ 64 → IsTrue (test n) → Stands stored at (to_be_bytes w64 n)
+pub IsGood-eight : (stored : List ℕ) (at n : ℕ) (test : ℕ → Bool) → n < 2 ^ 64 → IsTrue (test n) → TextStands stored at (to_be_bytes w64 n)
     → IsGood stored (record { at = at; bytes = 8; rule = Number w64 test })
 IsGood-eight stored at n test low passes stands = record { whole = stands.whole; kept = ap test (told_eight-stands stored at n low stands) ∙ passes }
 
-pub IsGood-bytes : (stored : List ℕ) (at n : ℕ) (text : List ℕ) (test : List ℕ → Bool) → length text ≡ n → IsTrue (test text) → Stands stored at text
+pub IsGood-bytes : (stored : List ℕ) (at n : ℕ) (text : List ℕ) (test : List ℕ → Bool) → length text ≡ n → IsTrue (test text) → TextStands stored at text
     → IsGood stored (record { at = at; bytes = n; rule = Bytes test })
 IsGood-bytes stored at n text test long passes stands =
     let same : take n (drop at stored) ≡ text = ap (λ (m : ℕ). take m (drop at stored)) (sym long) ∙ stands.bytes in

@@ -5,7 +5,7 @@ use Rattle.std.specs.Prelude.{fold}
 use Rattle.std.specs.Int.{to_be_bytes}
 use Rattle.std.proofs.lemmas.List.{append_assoc, drop-append-le, drop-drop, length-replicate, take-append-le}
 use Rattle.std.proofs.lemmas.List.Sums.{fold-append}
-use Rattle.sha2.specs.Sha256.{compress}
+use Rattle.store_model.specs.BlockFunction.{compress}
 use Rattle.store_model.specs.Hash.{Leads, blocks, close, initial_state, padding, sha256, state_after}
 
 -- one more block

@@ -1,15 +1,22 @@
 -- What is held stays held where its pages do: the pages of a content are owned by its blocks, and nothing else is read.
-use Rattle.std.proofs.Common.{◌≡◌, ℕ, ◌+◌, ◌%◌, ◌≤◌, length, take, Option, Some, inl, inr, sym, ap, ◌∙◌, subst, arith}
+use Rattle.std.proofs.Common.{◌≡◌, ℕ, ◌+◌, ◌/◌, ◌%◌, ◌<◌, ◌≤◌, List, length, take, Option, Some, inl, inr, sym, ap, ◌∙◌, subst, arith}
 use Rattle.store_model.specs.Disk.{Image, SameOff, page_bytes}
-use Rattle.store_model.specs.Holds.{IsPoured, Stands, StandsAt, place_of}
+use Rattle.store_model.specs.Holds.{HoldsAt, IsPoured, ObjectStands, StandsAt, full_page, place_of}
 use Rattle.store_model.specs.Layout.{Layout, data_page, data_pages}
 use Rattle.store_model.specs.Space.{AreBlocks, IsOwnedPage, blocks_of, owners, tail_blocks}
 use Rattle.store_model.specs.State.{State, heads_of}
-use Rattle.store_model.specs.Store.{Object, Place}
-use Rattle.store_model.proofs.PlaceLaws.{StandsAt-within, extent-owns, extent_blocks, lies-zero, owners-append, stands-lies, tail-own, tail-within}
+use Rattle.store_model.specs.Store.{Object, Placement}
+use Rattle.store_model.proofs.PlaceLaws.{StandsAt-one, StandsAt-within, extent-owns, extent_blocks, lies-zero, owners-append, stands-lies, tail-own, tail-within}
+
+-- wherever a full page of a held content stands, it reads so
+pub HoldsAt-full : (image : Image) (first : ℕ) (place : Placement) (content : List ℕ) → HoldsAt image first place content
+    → (page at : ℕ) → page < length content / page_bytes → StandsAt place page at → image (first + at) ≡ full_page content page
+HoldsAt-full image first place content held page at below stands =
+    let one = held.full page below in
+    ap (λ (n : ℕ). image (first + n)) (StandsAt-one place page at one.0 stands one.1) ∙ one.2
 
 -- where a full page stands is owned
-pub StandsAt-owned : (place : Place) (page at : ℕ) → StandsAt place page at → 1 ≤ owners (blocks_of place) at
+pub StandsAt-owned : (place : Placement) (page at : ℕ) → StandsAt place page at → 1 ≤ owners (blocks_of place) at
 StandsAt-owned place page at stands =
     let here = lies-zero at stands.head stands.extent (stands-lies place page at stands) in
     omega (
@@ -19,7 +26,7 @@ StandsAt-owned place page at stands =
     )
 
 -- a tail page is owned
-pub tail-owned : (place : Place) (at : ℕ) → place.tail ≡ Some at → 1 ≤ owners (blocks_of place) at
+pub tail-owned : (place : Placement) (at : ℕ) → place.tail ≡ Some at → 1 ≤ owners (blocks_of place) at
 tail-owned place at is =
     let tail : owners (tail_blocks place.tail) at ≡ 1 =
     subst (λ (t : Option ℕ). owners (tail_blocks t) at ≡ 1) (sym is) (tail-own at) in
@@ -52,12 +59,15 @@ IsPoured-page layout state from p blocks (inr tail) = record {
 }
 
 -- an object stands on while the pages of its blocks read as before
-pub Stands-off : (old new : Image) (first : ℕ) (object : Object)
+pub ObjectStands-off : (old new : Image) (first : ℕ) (object : Object)
     → ((at : ℕ) → 1 ≤ owners (blocks_of object.place) at → new (first + at) ≡ old (first + at))
-    → Stands old first object → Stands new first object
-Stands-off old new first object same stands = record {
+    → ObjectStands old first object → ObjectStands new first object
+ObjectStands-off old new first object same stands = record {
   held = record {
-    full = λ page at less there. same at (StandsAt-owned object.place page at there) ∙ stands.held.full page at less there;
+    full = λ page less.
+        let one = stands.held.full page less in
+        (one.0, one.1, same one.0 (StandsAt-owned object.place page one.0 one.1) ∙ one.2);
+    tailed = stands.held.tailed;
     tail = λ page is.
         ap (take (length object.content % page_bytes)) (same page (tail-owned object.place page is))
         ∙ stands.held.tail page is;
@@ -66,12 +76,12 @@ Stands-off old new first object same stands = record {
 }
 
 -- an object stands on while a content is written to blocks that share no page with its own
-pub Stands-poured : (layout : Layout) (state : State) (from : ℕ) (old new : Image) (object : Object)
+pub ObjectStands-poured : (layout : Layout) (state : State) (from : ℕ) (old new : Image) (object : Object)
     → SameOff (IsPoured layout state from) old new
     → ((at : ℕ) → owners (blocks_of object.place) at + owners (blocks_of (place_of state)) at ≤ 1)
-    → Stands old (data_page layout) object → Stands new (data_page layout) object
-Stands-poured layout state from old new object same apart stands =
-    Stands-off old new (data_page layout) object
+    → ObjectStands old (data_page layout) object → ObjectStands new (data_page layout) object
+ObjectStands-poured layout state from old new object same apart stands =
+    ObjectStands-off old new (data_page layout) object
     (λ at owned. same (data_page layout + at) (λ poured.
     let other = IsPoured-owned layout state from (data_page layout + at) poured in
     let here : other.0 ≡ at = omega (arith, other.1) in

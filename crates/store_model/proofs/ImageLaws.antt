@@ -69,6 +69,15 @@ stayed_none a = record {
   keeps = λ t image most left. left;
 }
 
+-- calls that write nothing, one after another
+pub stayed_then : (a b c : Story) → Stayed a b → Stayed b c → Stayed a c
+stayed_then a b c one other = record {
+  later = omega (arith, one.later, other.later);
+  reads = other.reads ∙ one.reads;
+  leaves = λ t image most left. one.leaves t image most (other.leaves t image (omega (arith, most, one.later)) left);
+  keeps = λ t image most left. other.keeps t image (omega (arith, most, one.later)) (one.keeps t image most left);
+}
+
 -- a call that wasn't made
 pub unchanged_stayed : (a b : Story) → Unchanged a b → Stayed a b
 unchanged_stayed a b same = record {

@@ -11,6 +11,8 @@ pub mod VerifyLaws
 pub mod StoredLaws
 pub mod CountLaws
 pub mod HeldLaws
+pub mod HoldsLaws
+pub mod PageLaws
 pub mod OrderLaws
 pub mod SortedLaws
 pub mod EntryLaws

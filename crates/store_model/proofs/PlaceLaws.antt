@@ -12,7 +12,7 @@ use Rattle.std.proofs.lemmas.List.Sorted.{sum_by-IsPermutation}
 use Rattle.store_model.specs.Holds.{StandsAt}
 use Rattle.store_model.specs.Shape.{held_by, tier_of}
 use Rattle.store_model.specs.Space.{Apart, AreBlocks, Block, IsBlock, blocks_of, end_of, lies_in, owners, tail_blocks}
-use Rattle.store_model.specs.Store.{Place}
+use Rattle.store_model.specs.Store.{Placement}
 use Rattle.store_model.proofs.ShapeLaws.{LiesAt-unique}
 
 -- the blocks of extents, of which the first has number n
@@ -106,12 +106,12 @@ extents-own (h ∷ heads) n (suc i) (suc j) one other page less is also lies too
     omega (arith, behind, one-more (lies_in page (h, tier_of n)) (owners (extent_blocks (n + 1) heads) page))
 
 -- the extent that a full page stands in
-pub stands-lies : (place : Place) (page at : ℕ) (stands : StandsAt place page at) → lies_in at (stands.head, tier_of stands.extent) ≡ true
+pub stands-lies : (place : Placement) (page at : ℕ) (stands : StandsAt place page at) → lies_in at (stands.head, tier_of stands.extent) ≡ true
 stands-lies place page at stands =
     lies_in-yes at (stands.head, tier_of stands.extent) (omega (arith, stands.at_is)) (omega (arith, stands.at_is, stands.lies.within))
 
 -- a full page stands within the pages that the blocks lie among
-pub StandsAt-within : (pages : ℕ) (place : Place) (page at : ℕ) → AreBlocks pages (blocks_of place) → StandsAt place page at → at < pages
+pub StandsAt-within : (pages : ℕ) (place : Placement) (page at : ℕ) → AreBlocks pages (blocks_of place) → StandsAt place page at → at < pages
 StandsAt-within pages place page at blocks stands =
     let number : 0 + stands.extent ≡ stands.extent = omega arith in
     let is : IsBlock pages (stands.head, tier_of stands.extent) =
@@ -128,7 +128,7 @@ tail-within pages page heads blocks =
     omega (arith, is.within)
 
 -- a full page stands on one page only
-pub StandsAt-one : (place : Place) (page a b : ℕ) → StandsAt place page a → StandsAt place page b → a ≡ b
+pub StandsAt-one : (place : Placement) (page a b : ℕ) → StandsAt place page a → StandsAt place page b → a ≡ b
 StandsAt-one place page a b one other =
     let same = LiesAt-unique page one.extent other.extent one.offset other.offset one.lies other.lies in
     let there : slice_get place.heads one.extent ≡ Some other.head = subst (λ (e : ℕ). slice_get place.heads e ≡ Some other.head) (sym same.0) other.there in
@@ -136,7 +136,7 @@ StandsAt-one place page a b one other =
     omega (arith, head, same.1, one.at_is, other.at_is)
 
 -- what the extents own of a page is at most one
-extents-apart : (place : Place) (page : ℕ) → Apart (blocks_of place) → owners (extent_blocks 0 place.heads) page + owners (tail_blocks place.tail) page ≤ 1
+extents-apart : (place : Placement) (page : ℕ) → Apart (blocks_of place) → owners (extent_blocks 0 place.heads) page + owners (tail_blocks place.tail) page ≤ 1
 extents-apart place page apart = omega (arith, owners-append (extent_blocks 0 place.heads) (tail_blocks place.tail) page, apart page)
 
 -- the same, where the first extent is counted as number 0
@@ -144,7 +144,7 @@ pub lies-zero : (page head extent : ℕ) → lies_in page (head, tier_of extent)
 lies-zero page head extent lies = let number : extent ≡ 0 + extent = omega arith in subst (λ (m : ℕ). lies_in page (head, tier_of m) ≡ true) number lies
 
 -- no two full pages stand on one page
-pub StandsAt-apart : (place : Place) (p q at : ℕ) → Apart (blocks_of place) → StandsAt place p at → StandsAt place q at → p ≡ q
+pub StandsAt-apart : (place : Placement) (p q at : ℕ) → Apart (blocks_of place) → StandsAt place p at → StandsAt place q at → p ≡ q
 StandsAt-apart place p q at apart one other =
     let most = extents-apart place at apart in
     let here = lies-zero at one.head one.extent (stands-lies place p at one) in
@@ -163,7 +163,7 @@ pub tail-own : (at : ℕ) → owners ((at, 0) ∷ []) at ≡ 1
 tail-own at = let here : lies_in at (at, 0) ≡ true = lies_in-yes at (at, 0) (omega arith) (omega arith) in rw here refl
 
 -- no full page stands on the tail page
-pub StandsAt-tail : (place : Place) (p at : ℕ) → Apart (blocks_of place) → StandsAt place p at → place.tail ≡ Some at → ⊥
+pub StandsAt-tail : (place : Placement) (p at : ℕ) → Apart (blocks_of place) → StandsAt place p at → place.tail ≡ Some at → ⊥
 StandsAt-tail place p at apart stands is =
     let most = extents-apart place at apart in
     let here = lies-zero at stands.head stands.extent (stands-lies place p at stands) in

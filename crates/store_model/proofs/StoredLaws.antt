@@ -2,12 +2,13 @@
 use Rattle.std.proofs.Common.{◌≡◌, ℕ, List, length, Option, Some, None, refl, ◌∙◌, arith}
 use Rattle.std.proofs.lemmas.List.{length-map}
 use Rattle.store_model.specs.Holds.{place_of}
-use Rattle.store_model.specs.Judgement.{object_bytes, tail_bytes}
+use Rattle.store_model.specs.Judgement.{object_bytes}
 use Rattle.store_model.specs.State.{Extent, IsState, State}
-use Rattle.store_model.specs.Tuple.{spelling, tail_spelling}
+use Rattle.store_model.specs.Tuple.{spelling, stored_tail, tail_spelling}
 use Rattle.store_model.proofs.StateLaws.{length-spelling}
 
-length-tail_spelling : (tail : Option ℕ) → length (tail_spelling tail) ≡ tail_bytes tail
+-- how long a tail's spelling is
+pub length-tail_spelling : (tail : Option ℕ) → length (tail_spelling tail) ≡ stored_tail tail
 length-tail_spelling None = refl
 length-tail_spelling (Some page) = refl
 

@@ -10,14 +10,14 @@ use Rattle.std.proofs.lemmas.List.{get_or-drop, get_or-map, length-map, length-t
 use Rattle.std.proofs.lemmas.List.FromFn.{map-range_with_len_more}
 use Rattle.std.proofs.lemmas.Option.{get_or_from_slice_get, slice_get-get_or, slice_get_within}
 use Rattle.store_model.specs.Disk.{page_bytes}
-use Rattle.store_model.specs.Field.{Field, Number, IsFirstBroken}
+use Rattle.store_model.specs.Field.{AreGood, Field, IsBroken, Number, IsFirstBroken, told_four}
 use Rattle.store_model.specs.Hash.{bytes_of_state}
 use Rattle.store_model.specs.Key.{is_key, is_slash}
 use Rattle.store_model.specs.Shape.{greatest_size, held_by, pages_of_extent}
-use Rattle.store_model.specs.State.{AreAligned, AreMarks, Extent, HasExtents, HasTail, IsMark, IsPrefix, IsState, State, heads_of, marks_of}
+use Rattle.store_model.specs.State.{AreAligned, AreMarks, Extent, HasExtents, HasTail, IsPrefix, IsState, State, heads_of, marks_of}
 use Rattle.store_model.specs.Tuple.{IsAtFront, IsTuple, extent_spelling, fields_spelling, key_spelling, places_spelling, spelling, state_spelling, tail_spelling}
-use Rattle.store_model.specs.TupleFields.{IsBadTuple, content_at, content_fields, extent_fields, is_filled, is_head, is_within, key_fields, places_fields, tail_fields, told_key, told_size, tuple_fields}
-use Rattle.store_model.proofs.FieldLaws.{AreBytes, AreGood, AreGood-append, AreGood-back, AreGood-front, AreGood-none_broken, AreGood-same, IsFirstBroken-back, IsFirstBroken-front, IsFirstBroken-here, IsBroken, IsGood-bytes, IsGood-eight, IsGood-four, Stands, Stands-append, Stands-back, Stands-bytes, Stands-eight, Stands-four, Stands-front, Stands-none, Stands-rest, Stands-start, take-plus, told_eight, told_four, told_four-stands}
+use Rattle.store_model.specs.TupleFields.{AreExtentsTold, IsBadTuple, IsExtentTold, content_at, content_fields, extent_fields, is_filled, is_head, is_within, key_fields, places_fields, tail_fields, told_key, told_size, tuple_fields}
+use Rattle.store_model.proofs.FieldLaws.{AreBytes, AreGood-append, AreGood-back, AreGood-front, AreGood-none_broken, AreGood-same, IsFirstBroken-back, IsFirstBroken-front, IsFirstBroken-here, IsGood-bytes, IsGood-eight, IsGood-four, TextStands, TextStands-append, TextStands-back, TextStands-bytes, TextStands-eight, TextStands-four, TextStands-front, TextStands-none, TextStands-rest, TextStands-start, take-plus, told_eight, told_four-stands}
 use Rattle.store_model.proofs.ShapeLaws.{held_by-all, held_by-mono}
 use Rattle.store_model.proofs.StateLaws.{slice_get-last, length-bytes_of_state, length-extents_spelling, length-fields_spelling}
 use Rattle.store_model.proofs.TupleLaws.{HeadsFit, count-same, heads-fit}
@@ -38,19 +38,19 @@ is_key-length key named =
     and_from _ _ (le-leb 3 (length key) (omega arith)) (le-leb (length key) 64 (omega arith))
 
 -- the same text at the same offset
-Stands-at : (stored : List ℕ) (p q : ℕ) (text : List ℕ) → p ≡ q → Stands stored p text → Stands stored q text
-Stands-at stored p q text same stands = rw same at stands
+TextStands-at : (stored : List ℕ) (p q : ℕ) (text : List ℕ) → p ≡ q → TextStands stored p text → TextStands stored q text
+TextStands-at stored p q text same stands = rw same at stands
 
 -- the key's length and the key, from what stands at the front
-key-good : (stored key : List ℕ) → IsTrue (is_key key) → Stands stored 0 (key_spelling key) → AreGood stored (key_fields (length key))
+key-good : (stored key : List ℕ) → IsTrue (is_key key) → TextStands stored 0 (key_spelling key) → AreGood stored (key_fields (length key))
 key-good stored key named stands =
-    let number : Stands stored 0 (length key ∷ []) = Stands-front stored 0 (length key ∷ []) key stands in
-    let text : Stands stored 1 key = Stands-back stored 0 (length key ∷ []) key stands in (
+    let number : TextStands stored 0 (length key ∷ []) = TextStands-front stored 0 (length key ∷ []) key stands in
+    let text : TextStands stored 1 key = TextStands-back stored 0 (length key ∷ []) key stands in (
       record { whole = number.whole; kept = ap (λ (bytes : List ℕ). is_within 3 64 (from_be_bytes w8 bytes)) number.bytes ∙ is_key-length key named },
       (record { whole = text.whole; kept = ap is_key text.bytes ∙ named }, tt),
     )
 
-told_key-stands : (stored key : List ℕ) → Stands stored 0 (key_spelling key) → told_key stored ≡ length key
+told_key-stands : (stored key : List ℕ) → TextStands stored 0 (key_spelling key) → told_key stored ≡ length key
 told_key-stands [] key stands = absurd (omega (arith, stands.whole))
 told_key-stands (byte ∷ stored) key stands = ap (λ (bytes : List ℕ). get_or bytes 0 0) stands.bytes
 
@@ -78,18 +78,18 @@ IsPrefix-is_filled size prefix long filled =
     }
 
 -- the fields before the extents, from what stands there
-content-good : (stored : List ℕ) (at : ℕ) (state : State) → IsState state → Stands stored at (fields_spelling state)
+content-good : (stored : List ℕ) (at : ℕ) (state : State) → IsState state → TextStands stored at (fields_spelling state)
     → AreGood stored (content_fields at state.size)
 content-good stored at state is stands =
     let size : List ℕ = to_be_bytes w32 state.size in
     let born : List ℕ = to_be_bytes w64 state.born in
-    let three : Stands stored at (size ++ born ++ state.digest) = Stands-front stored at (size ++ born ++ state.digest) state.prefix stands in
-    let two : Stands stored at (size ++ born) = Stands-front stored at (size ++ born) state.digest three in
+    let three : TextStands stored at (size ++ born ++ state.digest) = TextStands-front stored at (size ++ born ++ state.digest) state.prefix stands in
+    let two : TextStands stored at (size ++ born) = TextStands-front stored at (size ++ born) state.digest three in
     let long : length (size ++ born ++ state.digest) ≡ 44 = omega (arith, length-append (size ++ born) state.digest, length-append size born, is.digest) in
-    let second : Stands stored (at + 4) born = Stands-back stored at size born two in
-    let third : Stands stored (at + 12) state.digest = Stands-back stored at (size ++ born) state.digest three in
-    let fourth : Stands stored (at + 44) state.prefix = Stands-at stored _ _ state.prefix (ap (λ (n : ℕ). at + n) long) (Stands-back stored at (size ++ born ++ state.digest) state.prefix stands) in (
-      IsGood-four stored at state.size (λ n. nat_le n greatest_size) (omega (arith, is.size)) (le-leb state.size greatest_size is.size) (Stands-front stored at size born two),
+    let second : TextStands stored (at + 4) born = TextStands-back stored at size born two in
+    let third : TextStands stored (at + 12) state.digest = TextStands-back stored at (size ++ born) state.digest three in
+    let fourth : TextStands stored (at + 44) state.prefix = TextStands-at stored _ _ state.prefix (ap (λ (n : ℕ). at + n) long) (TextStands-back stored at (size ++ born ++ state.digest) state.prefix stands) in (
+      IsGood-four stored at state.size (λ n. nat_le n greatest_size) (omega (arith, is.size)) (le-leb state.size greatest_size is.size) (TextStands-front stored at size born two),
       (
         IsGood-eight stored (at + 4) state.born (is_within 1 (2 ^ 62)) (omega (arith, is.born.most))
             (and_from _ _ (le-leb 1 state.born is.born.least) (le-leb state.born (2 ^ 62) is.born.most)) second,
@@ -113,19 +113,19 @@ AreHeads-rest pages j e extents heads i extent is =
 
 -- the fields of the extents, from what stands there
 extents-good : (stored : List ℕ) (pages at j : ℕ) (extents : List Extent) → AreMarks (marks_of extents) → HeadsFit extents → AreHeads pages j extents
-    → Stands stored (at + 36 * j) (flat_map extent_spelling extents) → AreGood stored (flat_map (extent_fields pages at) (range_with_len j (length extents)))
+    → TextStands stored (at + 36 * j) (flat_map extent_spelling extents) → AreGood stored (flat_map (extent_fields pages at) (range_with_len j (length extents)))
 extents-good stored pages at j [] marks fit heads stands = tt
 extents-good stored pages at j (e ∷ extents) marks fit heads stands =
     let start : ℕ = at + 36 * j in
     let head : List ℕ = to_be_bytes w32 e.head in
     let mark : List ℕ = bytes_of_state e.mark in
     let eight : length mark ≡ 32 = omega (arith, length-bytes_of_state e.mark, (marks 0 e.mark refl).eight) in
-    let first : Stands stored start (head ++ mark) = Stands-front stored start (head ++ mark) (flat_map extent_spelling extents) stands in
-    let second : Stands stored (at + (36 * j + 4)) mark = Stands-at stored (start + 4) _ mark (omega arith) (Stands-back stored start head mark first) in
+    let first : TextStands stored start (head ++ mark) = TextStands-front stored start (head ++ mark) (flat_map extent_spelling extents) stands in
+    let second : TextStands stored (at + (36 * j + 4)) mark = TextStands-at stored (start + 4) _ mark (omega arith) (TextStands-back stored start head mark first) in
     let next : start + length (head ++ mark) ≡ at + 36 * (j + 1) = omega (arith, length-append head mark) in
-    let rest : Stands stored (at + 36 * (j + 1)) (flat_map extent_spelling extents) =
-    Stands-at stored _ _ (flat_map extent_spelling extents) next (Stands-back stored start (head ++ mark) (flat_map extent_spelling extents) stands) in (
-      IsGood-four stored start e.head (is_head pages j) (fit 0 e refl) (AreHeads-first pages j e extents heads) (Stands-front stored start head mark first),
+    let rest : TextStands stored (at + 36 * (j + 1)) (flat_map extent_spelling extents) =
+    TextStands-at stored _ _ (flat_map extent_spelling extents) next (TextStands-back stored start (head ++ mark) (flat_map extent_spelling extents) stands) in (
+      IsGood-four stored start e.head (is_head pages j) (fit 0 e refl) (AreHeads-first pages j e extents heads) (TextStands-front stored start head mark first),
       (
         IsGood-bytes stored (at + (36 * j + 4)) 32 mark (λ bytes. true) eight refl second,
         extents-good stored pages at (j + 1) extents (λ i m is. marks (suc i) m is) (λ i extent is. fit (suc i) extent is) (AreHeads-rest pages j e extents heads) rest,
@@ -146,7 +146,7 @@ tail_fields-some pages at size page has =
 
 -- the field of the tail, from what stands there
 tail-good : (stored : List ℕ) (pages at size : ℕ) (tail : Option ℕ) → pages ≤ 2 ^ 32 → HasTail size tail → IfSome tail (λ page. page < pages)
-    → Stands stored at (tail_spelling tail) → AreGood stored (tail_fields pages at size)
+    → TextStands stored at (tail_spelling tail) → AreGood stored (tail_fields pages at size)
 tail-good stored pages at size None most has below stands = rw (tail_fields-none pages at size has) tt
 tail-good stored pages at size (Some page) most has below stands =
     rw (tail_fields-some pages at size page has)
@@ -158,12 +158,12 @@ fields_from pages key size extents = key_fields key ++ content_fields (1 + key) 
 
 -- the size that is told where a tuple stands
 told_size-stands : (stored key : List ℕ) (state : State) → told_key stored ≡ length key → state.size ≤ greatest_size
-    → Stands stored (1 + length key) (fields_spelling state) → told_size stored ≡ state.size
+    → TextStands stored (1 + length key) (fields_spelling state) → told_size stored ≡ state.size
 told_size-stands stored key state told most stands =
     let size : List ℕ = to_be_bytes w32 state.size in
     let born : List ℕ = to_be_bytes w64 state.born in
-    let front = Stands-front stored (1 + length key) size born
-    (Stands-front stored (1 + length key) (size ++ born) state.digest (Stands-front stored (1 + length key) (size ++ born ++ state.digest) state.prefix stands)) in
+    let front = TextStands-front stored (1 + length key) size born
+    (TextStands-front stored (1 + length key) (size ++ born) state.digest (TextStands-front stored (1 + length key) (size ++ born ++ state.digest) state.prefix stands)) in
     ap (λ (n : ℕ). told_four stored (1 + n)) told ∙ told_four-stands stored (1 + length key) state.size (omega (arith, most)) front
 
 -- each head of a tuple is one
@@ -179,32 +179,32 @@ heads-tuple pages key state tuple i extent is =
 
 -- where a tuple stands, with the offsets of its parts
 record Parts (stored key : List ℕ) (state : State) : Type 0 where
-  front : Stands stored 0 (key_spelling key)
-  content : Stands stored (1 + length key) (fields_spelling state)
-  extents : Stands stored (1 + length key + 76) (flat_map extent_spelling state.extents)
-  tail : Stands stored (1 + length key + 76 + 36 * length state.extents) (tail_spelling state.tail)
+  front : TextStands stored 0 (key_spelling key)
+  content : TextStands stored (1 + length key) (fields_spelling state)
+  extents : TextStands stored (1 + length key + 76) (flat_map extent_spelling state.extents)
+  tail : TextStands stored (1 + length key + 76 + 36 * length state.extents) (tail_spelling state.tail)
 
-Parts-stands : (stored key : List ℕ) (state : State) → IsState state → Stands stored 0 (spelling key state) → Parts stored key state
+Parts-stands : (stored key : List ℕ) (state : State) → IsState state → TextStands stored 0 (spelling key state) → Parts stored key state
 Parts-stands stored key state is stands =
     let at : ℕ = 1 + length key in
-    let body : Stands stored at (state_spelling state) =
-    Stands-at stored _ at (state_spelling state) (omega arith) (Stands-back stored 0 (key_spelling key) (state_spelling state) stands) in
+    let body : TextStands stored at (state_spelling state) =
+    TextStands-at stored _ at (state_spelling state) (omega arith) (TextStands-back stored 0 (key_spelling key) (state_spelling state) stands) in
     let long : length (fields_spelling state) ≡ 76 = length-fields_spelling state is.digest is.prefix.bytes in
-    let places : Stands stored (at + 76) (places_spelling state.extents state.tail) =
-    Stands-at stored _ _ (places_spelling state.extents state.tail) (ap (λ (n : ℕ). at + n) long) (Stands-back stored at (fields_spelling state) (places_spelling state.extents state.tail) body) in
+    let places : TextStands stored (at + 76) (places_spelling state.extents state.tail) =
+    TextStands-at stored _ _ (places_spelling state.extents state.tail) (ap (λ (n : ℕ). at + n) long) (TextStands-back stored at (fields_spelling state) (places_spelling state.extents state.tail) body) in
     let count : length (flat_map extent_spelling state.extents) ≡ 36 * length state.extents = length-extents_spelling state.extents is.marks in
     record {
-      front = Stands-front stored 0 (key_spelling key) (state_spelling state) stands;
-      content = Stands-front stored at (fields_spelling state) (places_spelling state.extents state.tail) body;
-      extents = Stands-front stored (at + 76) (flat_map extent_spelling state.extents) (tail_spelling state.tail) places;
-      tail = Stands-at stored _ _ (tail_spelling state.tail) (ap (λ (n : ℕ). at + 76 + n) count)
-          (Stands-back stored (at + 76) (flat_map extent_spelling state.extents) (tail_spelling state.tail) places);
+      front = TextStands-front stored 0 (key_spelling key) (state_spelling state) stands;
+      content = TextStands-front stored at (fields_spelling state) (places_spelling state.extents state.tail) body;
+      extents = TextStands-front stored (at + 76) (flat_map extent_spelling state.extents) (tail_spelling state.tail) places;
+      tail = TextStands-at stored _ _ (tail_spelling state.tail) (ap (λ (n : ℕ). at + 76 + n) count)
+          (TextStands-back stored (at + 76) (flat_map extent_spelling state.extents) (tail_spelling state.tail) places);
     }
 
 -- the parts of a tuple at the front
 Parts-IsAtFront : (pages : ℕ) (stored key : List ℕ) (state : State) → IsAtFront pages stored key state → Parts stored key state
 Parts-IsAtFront pages stored key state front =
-    Parts-stands stored key state front.tuple.stands (Stands-start stored (spelling key state) front.rest front.stored_is)
+    Parts-stands stored key state front.tuple.stands (TextStands-start stored (spelling key state) front.rest front.stored_is)
 
 told_size-IsAtFront : (pages : ℕ) (stored key : List ℕ) (state : State) → IsAtFront pages stored key state → told_size stored ≡ state.size
 told_size-IsAtFront pages stored key state front =
@@ -222,7 +222,7 @@ AreGood-IsAtFront pages stored key state most front =
     let first = key-good stored key tuple.named parts.front in
     let second = content-good stored at state tuple.stands parts.content in
     let third = extents-good stored pages (at + 76) 0 state.extents tuple.stands.marks (heads-fit pages key state most tuple) (heads-tuple pages key state tuple)
-    (Stands-at stored _ _ (flat_map extent_spelling state.extents) none_before parts.extents) in
+    (TextStands-at stored _ _ (flat_map extent_spelling state.extents) none_before parts.extents) in
     let fourth = tail-good stored pages (at + 76 + 36 * length state.extents) state.size state.tail most tuple.stands.tail tuple.tail parts.tail in
     let places = AreGood-append stored _ _ third fourth in
     let all : AreGood stored (fields_from pages (length key) state.size (length state.extents)) =
@@ -242,16 +242,6 @@ IsAtFront-not_bad pages stored key state at most front bad =
     let count : bad.extents ≡ length state.extents = count-same state.size _ _ (rw size at has) front.tuple.stands.extents in
     AreGood-none_broken stored (tuple_fields pages stored bad.extents) at
     (AreGood-same stored _ _ (ap (tuple_fields pages stored) (sym count)) (AreGood-IsAtFront pages stored key state most front)) bad.first
-
--- the extent that the bytes at an offset tell
-pub record IsExtentTold (stored : List ℕ) (at : ℕ) (extent : Extent) : Type 0 where
-  pub head : extent.head ≡ told_four stored at
-  pub mark : bytes_of_state extent.mark ≡ take 32 (drop (at + 4) stored)
-  pub sound : IsMark extent.mark
-
--- the extents that the bytes from an offset on tell, one behind the other
-abbrev pub AreExtentsTold : List ℕ → ℕ → List Extent → Type 0
-AreExtentsTold stored at extents = (i : ℕ) (extent : Extent) → slice_get extents i ≡ Some extent → IsExtentTold stored (at + 36 * i) extent
 
 -- the first of the extents that are told, and the rest of them
 AreExtentsTold-first : (stored : List ℕ) (at : ℕ) (e : Extent) (extents : List Extent) → AreExtentsTold stored at (e ∷ extents) → IsExtentTold stored at e
@@ -292,20 +282,20 @@ heads-told stored pages from j at (e ∷ extents) start told good (suc i) extent
 
 -- the extents that are told stand there, where the fields are good
 extents-stand : (stored : List ℕ) (pages from j at : ℕ) (extents : List Extent) → AreBytes stored → at ≤ length stored → at ≡ from + 36 * j → AreExtentsTold stored at extents
-    → AreGood stored (flat_map (extent_fields pages from) (range_with_len j (length extents))) → Stands stored at (flat_map extent_spelling extents)
-extents-stand stored pages from j at [] bytes within start told good = Stands-none stored at within
+    → AreGood stored (flat_map (extent_fields pages from) (range_with_len j (length extents))) → TextStands stored at (flat_map extent_spelling extents)
+extents-stand stored pages from j at [] bytes within start told good = TextStands-none stored at within
 extents-stand stored pages from j at (e ∷ extents) bytes within start told good =
     let first : IsExtentTold stored at e = AreExtentsTold-first stored at e extents told in
     let head : List ℕ = to_be_bytes w32 e.head in
     let mark : List ℕ = bytes_of_state e.mark in
     let eight : length mark ≡ 32 = omega (arith, length-bytes_of_state e.mark, first.sound.eight) in
-    let here : Stands stored at head = Stands-four stored at e.head bytes (omega (arith, good.0.whole)) first.head in
-    let there : Stands stored (at + 4) mark = Stands-bytes stored (at + 4) 32 mark (omega (arith, good.1.0.whole)) first.mark in
-    let one : Stands stored at (head ++ mark) = Stands-append stored at head mark here there in
+    let here : TextStands stored at head = TextStands-four stored at e.head bytes (omega (arith, good.0.whole)) first.head in
+    let there : TextStands stored (at + 4) mark = TextStands-bytes stored (at + 4) 32 mark (omega (arith, good.1.0.whole)) first.mark in
+    let one : TextStands stored at (head ++ mark) = TextStands-append stored at head mark here there in
     let long : at + 36 ≡ at + length (head ++ mark) = omega (arith, length-append head mark) in
-    let rest : Stands stored (at + 36) (flat_map extent_spelling extents) =
+    let rest : TextStands stored (at + 36) (flat_map extent_spelling extents) =
     extents-stand stored pages from (j + 1) (at + 36) extents bytes (omega (arith, there.whole)) (omega arith) (AreExtentsTold-rest stored at e extents told) good.1.1 in
-    Stands-append stored at (head ++ mark) (flat_map extent_spelling extents) one (Stands-at stored _ _ (flat_map extent_spelling extents) long rest)
+    TextStands-append stored at (head ++ mark) (flat_map extent_spelling extents) one (TextStands-at stored _ _ (flat_map extent_spelling extents) long rest)
 
 -- the marks that are told are marks
 marks-told : (stored : List ℕ) (at : ℕ) (extents : List Extent) → AreExtentsTold stored at extents → AreMarks (marks_of extents)
@@ -368,10 +358,10 @@ pub record IsTailTold (stored : List ℕ) (at size : ℕ) (tail : Option ℕ) : 
 
 -- the tail that is told stands there, and is among the pages, where its field is good
 tail-stands : (stored : List ℕ) (pages at size : ℕ) (tail : Option ℕ) → AreBytes stored → at ≤ length stored → IsTailTold stored at size tail
-    → AreGood stored (tail_fields pages at size) → Stands stored at (tail_spelling tail)
-tail-stands stored pages at size None bytes within told good = Stands-none stored at within
+    → AreGood stored (tail_fields pages at size) → TextStands stored at (tail_spelling tail)
+tail-stands stored pages at size None bytes within told good = TextStands-none stored at within
 tail-stands stored pages at size (Some page) bytes within told good =
-    Stands-four stored at page bytes (rw (tail_fields-some pages at size page told.has) at good).0.whole told.page
+    TextStands-four stored at page bytes (rw (tail_fields-some pages at size page told.has) at good).0.whole told.page
 
 tail-below : (stored : List ℕ) (pages at size : ℕ) (tail : Option ℕ) → IsTailTold stored at size tail
     → AreGood stored (tail_fields pages at size) → IfSome tail (λ page. page < pages)
@@ -398,7 +388,7 @@ pub record AreAllGood (pages : ℕ) (stored : List ℕ) (at size extents : ℕ) 
   pub tail : AreGood stored (tail_fields pages (at + 76 + 36 * extents) size)
 
 -- the key that is told stands at the front
-key-stands : (stored key : List ℕ) → AreGood stored (key_fields (told_key stored)) → key ≡ take (told_key stored) (drop 1 stored) → Stands stored 0 (key_spelling key)
+key-stands : (stored key : List ℕ) → AreGood stored (key_fields (told_key stored)) → key ≡ take (told_key stored) (drop 1 stored) → TextStands stored 0 (key_spelling key)
 key-stands [] key good is = absurd (omega (arith, good.0.whole))
 key-stands (byte ∷ stored) key good is =
     let long : length key ≡ byte = ap length is ∙ length-take-le byte stored (omega (arith, good.1.0.whole)) in
@@ -409,19 +399,19 @@ key-stands (byte ∷ stored) key good is =
 
 -- what is told before the extents stands there
 content-stands : (stored key : List ℕ) (at : ℕ) (state : State) → AreBytes stored → IsTold stored key at state → AreGood stored (content_fields at state.size)
-    → Stands stored at (fields_spelling state)
+    → TextStands stored at (fields_spelling state)
 content-stands stored key at state bytes told good =
     let size : List ℕ = to_be_bytes w32 state.size in
     let born : List ℕ = to_be_bytes w64 state.born in
-    let first : Stands stored at size = Stands-four stored at state.size bytes good.0.whole told.size in
-    let second : Stands stored (at + 4) born = Stands-eight stored (at + 4) state.born bytes good.1.0.whole told.born in
-    let third : Stands stored (at + 12) state.digest = Stands-bytes stored (at + 12) 32 state.digest good.1.1.0.whole told.digest in
-    let fourth : Stands stored (at + 44) state.prefix = Stands-bytes stored (at + 44) 32 state.prefix good.1.1.1.0.whole told.prefix in
+    let first : TextStands stored at size = TextStands-four stored at state.size bytes good.0.whole told.size in
+    let second : TextStands stored (at + 4) born = TextStands-eight stored (at + 4) state.born bytes good.1.0.whole told.born in
+    let third : TextStands stored (at + 12) state.digest = TextStands-bytes stored (at + 12) 32 state.digest good.1.1.0.whole told.digest in
+    let fourth : TextStands stored (at + 44) state.prefix = TextStands-bytes stored (at + 44) 32 state.prefix good.1.1.1.0.whole told.prefix in
     let long : length state.digest ≡ 32 = ap length told.digest ∙ length-take-le 32 (drop (at + 12) stored) (omega (arith, good.1.1.0.whole, length-drop (at + 12) stored)) in
-    let two = Stands-append stored at size born first second in
-    let three = Stands-append stored at (size ++ born) state.digest two third in
+    let two = TextStands-append stored at size born first second in
+    let three = TextStands-append stored at (size ++ born) state.digest two third in
     let end : at + 44 ≡ at + length (size ++ born ++ state.digest) = omega (arith, length-append (size ++ born) state.digest, long) in
-    Stands-append stored at (size ++ born ++ state.digest) state.prefix three (Stands-at stored _ _ state.prefix end fourth)
+    TextStands-append stored at (size ++ born ++ state.digest) state.prefix three (TextStands-at stored _ _ state.prefix end fourth)
 
 -- extents whose heads are good stand at multiples of their pages
 AreAligned-heads : (pages : ℕ) (extents : List Extent) → AreHeads pages 0 extents → AreAligned (heads_of extents)
@@ -459,22 +449,22 @@ pub IsAtFront-told : (pages : ℕ) (stored key : List ℕ) (at : ℕ) (state : S
 IsAtFront-told pages stored key at state bytes start told has good =
     let is : IsState state = IsState-told pages stored key at state told has good in
     let heads : AreHeads pages 0 state.extents = heads-told stored pages (at + 76) 0 (at + 76) state.extents (omega arith) told.extents good.places in
-    let front : Stands stored 0 (key_spelling key) = key-stands stored key good.front told.text in
-    let content : Stands stored at (fields_spelling state) = content-stands stored key at state bytes told good.content in
+    let front : TextStands stored 0 (key_spelling key) = key-stands stored key good.front told.text in
+    let content : TextStands stored at (fields_spelling state) = content-stands stored key at state bytes told good.content in
     let long : length (fields_spelling state) ≡ 76 = length-fields_spelling state is.digest is.prefix.bytes in
     let within : at + 76 ≤ length stored = omega (arith, content.whole, long) in
-    let extents : Stands stored (at + 76) (flat_map extent_spelling state.extents) =
+    let extents : TextStands stored (at + 76) (flat_map extent_spelling state.extents) =
     extents-stand stored pages (at + 76) 0 (at + 76) state.extents bytes within (omega arith) told.extents good.places in
     let count : length (flat_map extent_spelling state.extents) ≡ 36 * length state.extents = length-extents_spelling state.extents is.marks in
     let end : at + 76 + 36 * length state.extents ≡ at + 76 + length (flat_map extent_spelling state.extents) = omega (arith, count) in
-    let tail : Stands stored (at + 76 + 36 * length state.extents) (tail_spelling state.tail) =
+    let tail : TextStands stored (at + 76 + 36 * length state.extents) (tail_spelling state.tail) =
     tail-stands stored pages (at + 76 + 36 * length state.extents) state.size state.tail bytes (omega (arith, extents.whole, count)) told.tail good.tail in
-    let places = Stands-append stored (at + 76) (flat_map extent_spelling state.extents) (tail_spelling state.tail) extents (Stands-at stored _ _ (tail_spelling state.tail) end tail) in
-    let body : Stands stored at (state_spelling state) =
-    Stands-append stored at (fields_spelling state) (places_spelling state.extents state.tail) content (Stands-at stored _ _ (places_spelling state.extents state.tail) (ap (λ (n : ℕ). at + n) (sym long)) places) in
+    let places = TextStands-append stored (at + 76) (flat_map extent_spelling state.extents) (tail_spelling state.tail) extents (TextStands-at stored _ _ (tail_spelling state.tail) end tail) in
+    let body : TextStands stored at (state_spelling state) =
+    TextStands-append stored at (fields_spelling state) (places_spelling state.extents state.tail) content (TextStands-at stored _ _ (places_spelling state.extents state.tail) (ap (λ (n : ℕ). at + n) (sym long)) places) in
     let text : length key ≡ told_key stored = ap length told.text ∙ length-take-le (told_key stored) (drop 1 stored) (omega (arith, good.front.1.0.whole, length-drop 1 stored)) in
-    let all : Stands stored 0 (spelling key state) =
-    Stands-append stored 0 (key_spelling key) (state_spelling state) front (Stands-at stored _ _ (state_spelling state) (omega (arith, start, text)) body) in
+    let all : TextStands stored 0 (spelling key state) =
+    TextStands-append stored 0 (key_spelling key) (state_spelling state) front (TextStands-at stored _ _ (state_spelling state) (omega (arith, start, text)) body) in
     record {
       tuple = record {
         named = ap is_key told.text ∙ good.front.1.0.kept;
@@ -486,7 +476,7 @@ IsAtFront-told pages stored key at state bytes start told has good =
         tail = tail-below stored pages (at + 76 + 36 * length state.extents) state.size state.tail told.tail good.tail;
       };
       rest = drop (length (spelling key state)) stored;
-      stored_is = Stands-rest stored (spelling key state) all;
+      stored_is = TextStands-rest stored (spelling key state) all;
     }
 
 -- the fields of a tuple, group by group

@@ -8,12 +8,13 @@ use Rattle.std.proofs.lemmas.Bool.Decides.{nat_tests}
 use Rattle.std.proofs.lemmas.List.{drop_all, length-map, length-take-le, take-append-drop}
 use Rattle.store_model.specs.Disk.{Image, page_bytes}
 use Rattle.store_model.specs.Hash.{Leads, bytes_of_state, close, initial_state, sha256, state_after}
-use Rattle.store_model.specs.Holds.{Holds, StandsAt, full_page, place_of, rest_of}
+use Rattle.store_model.specs.Holds.{Holds, HoldsAt, StandsAt, full_page, place_of, rest_of}
 use Rattle.store_model.specs.Shape.{UsesExtent, held_by, pages_used}
 use Rattle.store_model.specs.State.{Extent, HasTail, IsState, State, Tells, bytes_through, heads_of, marks_of}
-use Rattle.store_model.specs.Store.{Place}
+use Rattle.store_model.specs.Store.{Placement}
 use Rattle.store_model.specs.Verify.{Verifies, extent_bytes, link_from, mark_at, tail_on}
 use Rattle.store_model.proofs.HashLaws.{Leads-empty, close-Leads, state_after-append}
+use Rattle.store_model.proofs.HeldLaws.{HoldsAt-full}
 use Rattle.store_model.proofs.ShapeLaws.{UsesExtent-HasShape}
 use Rattle.store_model.proofs.StateLaws.{bytes_through-min}
 
@@ -34,12 +35,12 @@ joined content start next more all next_is all_is =
     ∙ sym (take-add page_bytes more (drop start content)) ∙ ap (λ (n : ℕ). take n (drop start content)) (sym all_is)
 
 -- the pages of an extent, from one behind its head on, read as the content from there on
-pages-held : (image : Image) (first : ℕ) (place : Place) (content : List ℕ) (i head o k : ℕ) → Holds image first place content → slice_get place.heads i ≡ Some head → o + k ≤ pages_used (length content) i
+pages-held : (image : Image) (first : ℕ) (place : Placement) (content : List ℕ) (i head o k : ℕ) → HoldsAt image first place content → slice_get place.heads i ≡ Some head → o + k ≤ pages_used (length content) i
     → flat_map (λ page. image (first + page)) (range_with_len (head + o) k) ≡ take (page_bytes * k) (drop (page_bytes * (held_by i + o)) content)
 pages-held image first place content i head o zero held there fits = refl
 pages-held image first place content i head o (suc k) held there fits =
     let stands : StandsAt place (held_by i + o) (head + o) = record { extent = i; offset = o; lies = record { at = refl; within = omega (arith, fits) }; head = head; there = there; at_is = refl } in
-    let here : image (first + (head + o)) ≡ full_page content (held_by i + o) = held.full (held_by i + o) (head + o) (omega (arith, fits)) stands in
+    let here : image (first + (head + o)) ≡ full_page content (held_by i + o) = HoldsAt-full image first place content held (held_by i + o) (head + o) (omega (arith, fits)) stands in
     let next : head + o + 1 ≡ head + (o + 1) = omega arith in
     let later : held_by i + (o + 1) ≡ held_by i + o + 1 = omega arith in
     let rest = pages-held image first place content i head (o + 1) k held there (omega (arith, fits)) in
@@ -52,7 +53,7 @@ pages-held image first place content i head o (suc k) held there fits =
 abbrev begin_of : ℕ → ℕ
 begin_of i = page_bytes * held_by i
 
-slice_get-index : (heads : List ℕ) (i : ℕ) → i < length heads → slice_get heads i ≡ Some (slice_index heads i)
+pub slice_get-index : (heads : List ℕ) (i : ℕ) → i < length heads → slice_get heads i ≡ Some (slice_index heads i)
 slice_get-index [] i less = absurd (omega arith)
 slice_get-index (h ∷ heads) zero less = refl
 slice_get-index (h ∷ heads) (suc i) less = slice_get-index heads i (omega arith)
@@ -66,7 +67,7 @@ slice_get-or (m ∷ marks) (suc i) d less = slice_get-or marks i d (omega arith)
 record Known (image : Image) (first : ℕ) (state : State) (content : List ℕ) : Type 0 where
   sound : IsState state
   tells : Tells state content
-  held : Holds image first (place_of state) content
+  held : HoldsAt image first (place_of state) content
 
 -- the mark of an extent leads from the initial state through its used pages
 led-mark : (image : Image) (first : ℕ) (state : State) (content : List ℕ) (i : ℕ) → Known image first state content → i < length state.extents → Leads initial_state (take (bytes_through (length content) i) content) (mark_at state i)
@@ -107,17 +108,17 @@ led-from image first state content (suc i) known le =
     ∙ led-mark image first state content i known (omega arith) ∙ sym (link_from-next state i)
 
 -- what the pages of an extent read as
-extent-held : (image : Image) (first : ℕ) (state : State) (content : List ℕ) (i : ℕ) → Known image first state content → i < length state.extents
+pub extent-held : (image : Image) (first : ℕ) (state : State) (content : List ℕ) (i : ℕ) → state.size ≡ length content → HoldsAt image first (place_of state) content → i < length state.extents
     → extent_bytes image first state i ≡ take (page_bytes * pages_used (length content) i) (drop (page_bytes * held_by i) content)
-extent-held image first state content i known less =
+extent-held image first state content i size_is held less =
     let heads : List ℕ = heads_of state.extents in
     let there : slice_get heads i ≡ Some (slice_index heads i) = slice_get-index heads i (omega (arith, less, length-map state.extents (λ (e : Extent). e.head))) in
-    let held = pages-held image first (place_of state) content i (slice_index heads i) 0 (pages_used (length content) i) known.held there (omega arith) in
+    let read = pages-held image first (place_of state) content i (slice_index heads i) 0 (pages_used (length content) i) held there (omega arith) in
     let begin : slice_index heads i + 0 ≡ slice_index heads i = omega arith in
     let start : held_by i + 0 ≡ held_by i = omega arith in
-    ap (λ (n : ℕ). flat_map (λ page. image (first + page)) (range_with_len (slice_index heads i) (pages_used n i))) known.tells.size
+    ap (λ (n : ℕ). flat_map (λ page. image (first + page)) (range_with_len (slice_index heads i) (pages_used n i))) size_is
     ∙ ap (λ (n : ℕ). flat_map (λ page. image (first + page)) (range_with_len n (pages_used (length content) i))) (sym begin)
-    ∙ held ∙ ap (λ (n : ℕ). take (page_bytes * pages_used (length content) i) (drop (page_bytes * n) content)) start
+    ∙ read ∙ ap (λ (n : ℕ). take (page_bytes * pages_used (length content) i) (drop (page_bytes * n) content)) start
 
 -- each extent leads from the mark before to its own
 extent-leads : (image : Image) (first : ℕ) (state : State) (content : List ℕ) (i : ℕ) → Known image first state content → i < length state.extents
@@ -131,18 +132,18 @@ extent-leads image first state content i known less =
     let end : bytes_through size i ≡ a + b = omega arith in
     let whole : length (take a content) % 64 ≡ 0 = omega (arith, used, length-take-le a content (omega (arith, used))) in
     let from : Leads initial_state (take a content) (link_from state i) = subst (λ (n : ℕ). Leads initial_state (take n content) (link_from state i)) start (led-from image first state content i known (omega (arith, less))) in
-    ap (state_after (link_from state i)) (extent-held image first state content i known less)
+    ap (state_after (link_from state i)) (extent-held image first state content i known.tells.size known.held less)
     ∙ ap (λ (s : List ℕ). state_after s (take b (drop a content))) (sym from)
     ∙ sym (state_after-append initial_state (take a content) (take b (drop a content)) whole)
     ∙ ap (state_after initial_state) (sym (take-add a b content) ∙ ap (λ (n : ℕ). take n content) (sym end))
     ∙ led-mark image first state content i known less
 
 -- Where no tail page is, no bytes are left.
-no_tail : (size : ℕ) → HasTail size None → size % page_bytes ≡ 0
+pub no_tail : (size : ℕ) → HasTail size None → size % page_bytes ≡ 0
 no_tail size has = elim (cases_lt 0 (size % page_bytes)) [ inl some ↦ absurd (cc (has.1 some)) | inr none ↦ omega arith ]
 
 -- the bytes of the tail, from its page
-tail-held : (image : Image) (first : ℕ) (place : Place) (content : List ℕ) (tail : Option ℕ) → tail ≡ place.tail → Holds image first place content → HasTail (length content) tail
+pub tail-held : (image : Image) (first : ℕ) (place : Placement) (content : List ℕ) (tail : Option ℕ) → tail ≡ place.tail → HoldsAt image first place content → HasTail (length content) tail
     → tail_on image first (length content) tail ≡ rest_of content
 tail-held image first place content None same held has =
     let none = no_tail (length content) has in
@@ -166,9 +167,9 @@ tail-closes image first state content known =
     ∙ ap sha256 (take-append-drop full content) ∙ sym known.tells.digest
 
 -- A state that tells a content verifies over every image whose pages hold it.
-pub Verifies-Holds : (image : Image) (first : ℕ) (state : State) (content : List ℕ) → IsState state → Tells state content → Holds image first (place_of state) content → Verifies image first state
+pub Verifies-Holds : (image : Image) (first : ℕ) (state : State) (content : List ℕ) → IsState state → Tells state content → Holds image first state content → Verifies image first state
 Verifies-Holds image first state content sound tells held =
-    let known : Known image first state content = record { sound = sound; tells = tells; held = held } in
+    let known : Known image first state content = record { sound = sound; tells = tells; held = held.at } in
     λ i le. elim (cases_lt i (length state.extents)) [
       | inl less ↦
           (let yes : nat_lt i (length state.extents) ≡ true = grind (arith, nat_tests, less) in

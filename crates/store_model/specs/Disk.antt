@@ -1,5 +1,5 @@
 -- What the pages of a disk read as.
-use Rattle.std.specs.Prelude.{ℕ, ◌+◌, ◌-◌, ◌==◌, ◌≡◌, List, [], ◌∷◌, ◌++◌, length, replicate, if◌then◌else◌}
+use Rattle.std.specs.Prelude.{ℕ, ◌+◌, ◌-◌, ◌<◌, ◌==◌, ◌≡◌, List, [], ◌∷◌, ◌++◌, length, replicate, slice_index, if◌then◌else◌}
 
 -- the bytes of each page
 abbrev pub Image : Type 0
@@ -12,6 +12,15 @@ page_bytes = 4096
 -- a page of zeros
 abbrev pub zero_page : List ℕ
 zero_page = replicate page_bytes 0
+
+-- as many bytes as a page has
+pub record IsPage (bytes : List ℕ) : Type 0 where
+  pub whole : length bytes ≡ page_bytes
+  pub each : (i : ℕ) → slice_index bytes i < 256
+
+-- each page is one
+abbrev pub HasPages : Image → Type 0
+HasPages image = (page : ℕ) → IsPage (image page)
 
 -- at most a page of bytes, and zeros behind them
 abbrev pub page_of : List ℕ → List ℕ
@@ -47,3 +56,9 @@ with_write calls = record { reads = calls.reads; writes = calls.writes + 1; sync
 -- one more sync
 abbrev pub with_sync : Calls → Calls
 with_sync calls = record { reads = calls.reads; writes = calls.writes; syncs = calls.syncs + 1 }
+
+-- a disk has taken so many more calls of each kind
+pub record Took (more_reads more_writes more_syncs : ℕ) (old new : Calls) : Type 0 where
+  pub reads : new.reads ≡ old.reads + more_reads
+  pub writes : new.writes ≡ old.writes + more_writes
+  pub syncs : new.syncs ≡ old.syncs + more_syncs

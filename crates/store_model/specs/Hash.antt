@@ -3,10 +3,7 @@
 use Rattle.std.specs.Prelude.{◌≡◌, ℕ, zero, suc, ◌+◌, ◌-◌, ◌*◌, ◌/◌, ◌%◌, List, [], ◌∷◌, ◌++◌, length, take, drop, replicate, fold}
 use Rattle.std.specs.Int.{w32, w64, to_be_bytes}
 use Rattle.std.specs.List.{flat_map}
-use Rattle.sha2.specs.Sha256.{compress}
-
--- The block function (6.2.2) is `compress state block` of the library's crate `sha2`, in its
--- specs/Sha256.antt. All else is defined here.
+use Rattle.store_model.specs.BlockFunction.{compress}
 
 -- the initial state (5.3.3)
 abbrev pub initial_state : List ℕ

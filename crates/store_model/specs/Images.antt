@@ -1,18 +1,6 @@
 -- Time and crashes of a disk. Its time is the number of its calls, and the images are what a crash may leave of it.
-use Rattle.std.specs.Prelude.{ℕ, ◌+◌, ◌<◌, ◌≤◌, ◌≡◌, ◌⊎◌, List, length, slice_index}
-use Rattle.std.proofs.Common.{sym, subst, inl, inr, lit<}
-use Rattle.std.proofs.lemmas.List.{length-replicate, get_or-replicate, get_or_past}
-use Rattle.std.proofs.lemmas.Bool.{cases_lt}
-use Rattle.store_model.specs.Disk.{Image, Calls, SameOff, page_bytes, zero_page}
-
--- 4096 bytes
-pub record IsPage (bytes : List ℕ) : Type 0 where
-  pub whole : length bytes ≡ page_bytes
-  pub each : (i : ℕ) → slice_index bytes i < 256
-
--- each page has 4096 bytes
-abbrev pub HasPages : Image → Type 0
-HasPages image = (page : ℕ) → IsPage (image page)
+use Rattle.std.specs.Prelude.{ℕ, ◌+◌, ◌<◌, ◌≤◌, ◌≡◌, ◌⊎◌}
+use Rattle.store_model.specs.Disk.{Image, Calls, HasPages, IsPage, SameOff}
 
 -- The sum of the counts of calls.
 abbrev pub time_of : Calls → ℕ
@@ -92,24 +80,3 @@ pub record Reached (P : ℕ → Image → Type 0) (k : ℕ) (story : Story) : Ty
 -- step after step up to n, and never back
 abbrev pub Climbed : (ℕ → Image → Type 0) → ℕ → Story → Type 0
 Climbed P n story = (k : ℕ) → k ≤ n → Reached P k story
-
--- a page of zeros is a page
-pub IsPage-zero_page : IsPage zero_page
-IsPage-zero_page = record {
-  whole = length-replicate {A = ℕ} page_bytes 0;
-  each = λ i. elim (cases_lt i page_bytes) [
-    | inl below ↦ subst (λ (byte : ℕ). byte < 256) (sym (get_or-replicate {A = ℕ} page_bytes i 0 0 below)) (lit< tt)
-    | inr past ↦ subst (λ (byte : ℕ). byte < 256) (sym (get_or_past zero_page i 0 (subst (λ (n : ℕ). n ≤ i) (sym (length-replicate {A = ℕ} page_bytes 0)) past))) (lit< tt)
-  ];
-}
-
--- of a disk that tells nothing
-pub untold : Story
-untold = record {
-  time = 0;
-  reads = λ _. zero_page;
-  left = λ t image. HasPages image;
-  own = λ _. IsPage-zero_page;
-  since = λ t u image le most left. left;
-  pages = λ t image left. left;
-}

@@ -1,3 +1,4 @@
+pub mod BlockFunction
 pub mod Hash
 pub mod Shape
 pub mod Key
@@ -8,6 +9,7 @@ pub mod Turn
 pub mod Group
 pub mod Script
 pub mod Play
+pub mod Cost
 pub mod Layout
 pub mod Disk
 pub mod Images
@@ -18,6 +20,7 @@ pub mod Tuple
 pub mod Holds
 pub mod Space
 pub mod Verify
+pub mod Standing
 pub mod Places
 pub mod Judgement
 pub mod Field

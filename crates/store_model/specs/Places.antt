@@ -2,9 +2,9 @@
 use Rattle.std.specs.Prelude.{ℕ, ◌/◌, ◌%◌, ◌==◌, ◌&&◌, nat_le, nat_lt, not, Bool, List, [], ◌∷◌, ◌++◌, map, take, drop, Option, Some, None, Result, Ok, Err, if◌then◌else◌}
 use Rattle.std.specs.List.{list_all, position, position_or_len, range_with_len}
 use Rattle.store_model.specs.Disk.{page_bytes}
-use Rattle.store_model.specs.Shape.{held_by, pages_of_tier, tier_of}
+use Rattle.store_model.specs.Shape.{held_by, most_extents, pages_of_tier, tier_of}
 use Rattle.store_model.specs.Space.{Block, end_of}
-use Rattle.store_model.specs.Store.{Place}
+use Rattle.store_model.specs.Store.{Placement}
 
 -- whether two blocks have a page in common
 abbrev pub do_meet : Block → Block → Bool
@@ -21,7 +21,7 @@ fit owned tier pages = position (is_free owned tier pages) (range_with_len 0 pag
 
 -- how many extents a content of this size has: the least number that holds its full pages
 abbrev pub extent_count : ℕ → ℕ
-extent_count size = position_or_len (λ n. nat_le (size / page_bytes) (held_by n)) (range_with_len 0 127)
+extent_count size = position_or_len (λ n. nat_le (size / page_bytes) (held_by n)) (range_with_len 0 most_extents)
 
 -- the tiers of the first n extents
 abbrev pub extent_tiers : ℕ → List ℕ
@@ -56,5 +56,5 @@ first_of [] = None
 first_of (head ∷ heads) = Some head
 
 -- the place of a content of this size whose blocks have these heads
-abbrev pub place_with : ℕ → List ℕ → Place
+abbrev pub place_with : ℕ → List ℕ → Placement
 place_with size heads = record { heads = take (extent_count size) heads; tail = first_of (drop (extent_count size) heads) }

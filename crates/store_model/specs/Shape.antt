@@ -19,6 +19,10 @@ unfoldable pub held_by : ℕ → ℕ
 held_by zero = 0
 held_by (suc n) = held_by n + pages_of_extent n
 
+-- how many extents a content has at most
+abbrev pub most_extents : ℕ
+most_extents = 127
+
 -- the greatest size of a content, in bytes
 abbrev pub greatest_size : ℕ
 greatest_size = 381669375

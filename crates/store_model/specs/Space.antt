@@ -3,7 +3,7 @@ use Rattle.std.specs.Prelude.{ℕ, ◌+◌, ◌%◌, ◌<◌, ◌≤◌, ◌≡�
 use Rattle.std.specs.List.{enumerate_from, flat_map}
 use Rattle.store_model.specs.Layout.{Layout, data_page, data_pages}
 use Rattle.store_model.specs.Shape.{pages_of_tier, tier_of}
-use Rattle.store_model.specs.Store.{Place}
+use Rattle.store_model.specs.Store.{Placement}
 
 -- a block of pages: the first of them, counted in the data area, and its tier
 abbrev pub Block : Type 0
@@ -71,7 +71,7 @@ abbrev pub extent_blocks : List ℕ → List Block
 extent_blocks heads = flat_map (λ head. (head.1, tier_of head.0) ∷ []) (enumerate_from 0 heads)
 
 -- the blocks of an object's place: its extents in order, and then its tail
-abbrev pub blocks_of : Place → List Block
+abbrev pub blocks_of : Placement → List Block
 blocks_of place = extent_blocks place.heads ++ tail_blocks place.tail
 
 -- page p of a disk is one of the data area that some of these blocks own

@@ -37,10 +37,14 @@ pub record IsPrefix (size : ℕ) (prefix : List ℕ) : Type 0 where
   pub bytes : length prefix ≡ 32
   pub zeros : (k : ℕ) → size ≤ k → slice_index prefix k ≡ 0
 
+-- the greatest number of an entry
+abbrev pub greatest_number : ℕ
+greatest_number = 2 ^ 62
+
 -- the numbers of the entries that write states
 pub record IsNumber (number : ℕ) : Type 0 where
   pub least : 1 ≤ number
-  pub most : number ≤ 2 ^ 62
+  pub most : number ≤ greatest_number
 
 -- each extent stands at a multiple of its pages
 abbrev pub AreAligned : List ℕ → Type 0

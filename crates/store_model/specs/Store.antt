@@ -5,7 +5,7 @@ use Rattle.store_model.specs.Key.{key_order}
 
 -- Where a content lies: the heads of its extents, and its tail page where it has one. Pages are counted from the data
 -- area's first.
-pub record Place : Type 0 where
+pub record Placement : Type 0 where
   pub heads : List ℕ
   pub tail : Option ℕ
 
@@ -13,7 +13,7 @@ pub record Place : Type 0 where
 pub record Object : Type 0 where
   pub content : List ℕ
   pub number : ℕ
-  pub place : Place
+  pub place : Placement
 
 -- the objects by their keys, and the number of the last entry
 pub record Store : Type 0 where

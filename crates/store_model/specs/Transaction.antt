@@ -2,7 +2,7 @@
 use Rattle.std.specs.Prelude.{ℕ, ◌+◌, Bool, not, ◌||◌, List, Option, count_by, fold, zip}
 use Rattle.std.specs.FinMap.{FinMap, empty, insert, contains_key, entries, keys, len}
 use Rattle.store_model.specs.Key.{key_order}
-use Rattle.store_model.specs.Store.{Store, Object, Place}
+use Rattle.store_model.specs.Store.{Store, Object, Placement}
 
 -- a change of one key: a put sets its content
 pub data Change : Type 0 where
@@ -30,11 +30,11 @@ abbrev pub content_of : Change → List ℕ
 content_of (Put content) = content
 
 -- the objects after one change, with the number of its entry and its place
-abbrev pub with_change : ℕ → FinMap key_order Object → (List ℕ × Change) × Place → FinMap key_order Object
+abbrev pub with_change : ℕ → FinMap key_order Object → (List ℕ × Change) × Placement → FinMap key_order Object
 with_change number objects change = insert objects change.0.0 (record { content = content_of change.0.1; number = number; place = change.1 })
 
 -- the store after all its changes at once, under the entry's number, with a place for each change in key order
-abbrev pub apply : Store → Transaction → ℕ → List Place → Store
+abbrev pub apply : Store → Transaction → ℕ → List Placement → Store
 apply store transaction number places = record {
   objects = fold (with_change number) store.objects (zip (entries transaction.changes) places);
   last = number;

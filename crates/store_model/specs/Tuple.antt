@@ -7,6 +7,23 @@ use Rattle.store_model.specs.Key.{is_key}
 use Rattle.store_model.specs.Shape.{pages_of_extent}
 use Rattle.store_model.specs.State.{Extent, State, IsState}
 
+-- How many bytes of a stored state stand before its extents: its size, its number, its digest and its prefix.
+abbrev pub stored_fields : ℕ
+stored_fields = 76
+
+-- how many an extent takes: its head and its mark
+abbrev pub stored_extent : ℕ
+stored_extent = 36
+
+-- how many a tail takes, where there is one
+abbrev pub stored_tail : Option ℕ → ℕ
+stored_tail None = 0
+stored_tail (Some page) = 4
+
+-- how many a key and its state take at most: with a key of 64 characters, 127 extents and a tail
+abbrev pub greatest_tuple : ℕ
+greatest_tuple = 4717
+
 -- a length of one byte, and the key
 abbrev pub key_spelling : List ℕ → List ℕ
 key_spelling key = length key ∷ key

@@ -1,11 +1,13 @@
 -- The fields of a stored tuple, by their offsets, and what is no tuple.
-use Rattle.std.specs.Prelude.{ℕ, ◌+◌, ◌*◌, ◌%◌, ◌^◌, ◌≤◌, ◌==◌, ◌&&◌, nat_le, nat_lt, Bool, true, List, [], ◌∷◌, ◌++◌, take, drop, slice_index, if◌then◌else◌}
-use Rattle.std.specs.Int.{w8, w32, w64, from_be_bytes}
+use Rattle.std.specs.Prelude.{◌≡◌, ℕ, ◌+◌, ◌*◌, ◌%◌, ◌≤◌, ◌==◌, ◌&&◌, nat_le, nat_lt, Bool, true, List, [], ◌∷◌, ◌++◌, take, drop, slice_get, slice_index, Some, if◌then◌else◌}
+use Rattle.std.specs.Int.{w8, w32, w64}
 use Rattle.std.specs.List.{flat_map, list_all, range_with_len}
 use Rattle.store_model.specs.Disk.{page_bytes}
-use Rattle.store_model.specs.Field.{Field, KeyText, Number, Bytes, IsFirstBroken}
+use Rattle.store_model.specs.Field.{Field, KeyText, Number, Bytes, IsFirstBroken, told_four}
+use Rattle.store_model.specs.Hash.{bytes_of_state}
 use Rattle.store_model.specs.Shape.{greatest_size, pages_of_extent}
-use Rattle.store_model.specs.State.{HasExtents}
+use Rattle.store_model.specs.State.{Extent, HasExtents, IsMark, greatest_number}
+use Rattle.store_model.specs.Tuple.{stored_extent, stored_fields}
 
 -- from least to most
 abbrev pub is_within : ℕ → ℕ → ℕ → Bool
@@ -34,7 +36,7 @@ key_fields key =
 abbrev pub content_fields : ℕ → ℕ → List Field
 content_fields at size =
     record { at = at; bytes = 4; rule = Number w32 (λ n. nat_le n greatest_size) }
-    ∷ record { at = at + 4; bytes = 8; rule = Number w64 (is_within 1 (2 ^ 62)) }
+    ∷ record { at = at + 4; bytes = 8; rule = Number w64 (is_within 1 greatest_number) }
     ∷ record { at = at + 12; bytes = 32; rule = Bytes any_bytes }
     ∷ record { at = at + 44; bytes = 32; rule = Bytes (is_filled size) }
     ∷ []
@@ -42,8 +44,8 @@ content_fields at size =
 -- the head and the mark of extent i; the extents begin at `at`
 abbrev pub extent_fields : ℕ → ℕ → ℕ → List Field
 extent_fields pages at i =
-    record { at = at + 36 * i; bytes = 4; rule = Number w32 (is_head pages i) }
-    ∷ record { at = at + (36 * i + 4); bytes = 32; rule = Bytes any_bytes }
+    record { at = at + stored_extent * i; bytes = 4; rule = Number w32 (is_head pages i) }
+    ∷ record { at = at + (stored_extent * i + 4); bytes = 32; rule = Bytes any_bytes }
     ∷ []
 
 -- the tail, where the size has one
@@ -54,7 +56,9 @@ tail_fields pages at size =
 
 -- so many extents, and the tail
 abbrev pub places_fields : ℕ → ℕ → ℕ → ℕ → List Field
-places_fields pages at size extents = flat_map (extent_fields pages at) (range_with_len 0 extents) ++ tail_fields pages (at + 36 * extents) size
+places_fields pages at size extents =
+    flat_map (extent_fields pages at) (range_with_len 0 extents)
+    ++ tail_fields pages (at + stored_extent * extents) size
 
 -- the length that is told of the key
 abbrev pub told_key : List ℕ → ℕ
@@ -66,14 +70,25 @@ content_at stored = 1 + told_key stored
 
 -- the size that is told
 abbrev pub told_size : List ℕ → ℕ
-told_size stored = from_be_bytes w32 (take 4 (drop (content_at stored) stored))
+told_size stored = told_four stored (content_at stored)
 
 -- the fields of a tuple with so many extents, whose key's length and size are those that these bytes tell
 abbrev pub tuple_fields : ℕ → List ℕ → ℕ → List Field
 tuple_fields pages stored extents =
     key_fields (told_key stored)
     ++ content_fields (content_at stored) (told_size stored)
-    ++ places_fields pages (content_at stored + 76) (told_size stored) extents
+    ++ places_fields pages (content_at stored + stored_fields) (told_size stored) extents
+
+-- the extent that the bytes at an offset tell
+pub record IsExtentTold (stored : List ℕ) (at : ℕ) (extent : Extent) : Type 0 where
+  pub head : extent.head ≡ told_four stored at
+  pub mark : bytes_of_state extent.mark ≡ take 32 (drop (at + 4) stored)
+  pub sound : IsMark extent.mark
+
+-- the extents that the bytes from an offset on tell, one behind the other
+abbrev pub AreExtentsTold : List ℕ → ℕ → List Extent → Type 0
+AreExtentsTold stored at extents =
+    (i : ℕ) (extent : Extent) → slice_get extents i ≡ Some extent → IsExtentTold stored (at + stored_extent * i) extent
 
 -- The first field of a tuple that is cut short or breaks its rule is named by this offset. There are as many extents as
 -- the size has, where it is one.

@@ -1,5 +1,5 @@
 -- One turn of a session: the answer to an action over the store, and the session after it.
-use Rattle.std.specs.Prelude.{ℕ, Bool, true, false, not, ◌&&◌, nat_le, nat_lt, ◌==◌, List, length, Option, Some, None, if◌then◌else◌}
+use Rattle.std.specs.Prelude.{ℕ, ◌+◌, Bool, true, false, not, ◌&&◌, nat_le, nat_lt, ◌==◌, List, length, Option, Some, None, if◌then◌else◌}
 use Rattle.std.specs.FinMap.{get, insert, contains_key}
 use Rattle.store_model.specs.Hash.{sha256}
 use Rattle.store_model.specs.Shape.{greatest_size}
@@ -80,14 +80,14 @@ measured None = answer.Absent
 -- a look at a key in an open transaction, which shows this of its value
 abbrev pub look_turn : (Option (List ℕ) → AnswerLine) → Store → Transaction → List ℕ → Turned
 look_turn show store transaction key =
-    if is_one_too_many transaction key then record { line = answer.TooMany 17; session = Open transaction }
+    if is_one_too_many transaction key then record { line = answer.TooMany (most_keys + 1); session = Open transaction }
     else if is_stale (number_at store key) transaction key then record { line = answer.Stale (number_at store key); session = Open transaction }
     else record { line = show (value_of store transaction key); session = Open (with_read (number_at store key) transaction key) }
 
 -- a put in an open transaction
 abbrev pub put_turn : Transaction → List ℕ → List ℕ → Turned
 put_turn transaction key content =
-    if is_one_too_many transaction key then record { line = answer.TooMany 17; session = Open transaction }
+    if is_one_too_many transaction key then record { line = answer.TooMany (most_keys + 1); session = Open transaction }
     else if nat_lt greatest_size (length content) then record { line = answer.TooLong (length content); session = Open transaction }
     else record { line = answer.Put; session = Open (record { reads = transaction.reads; changes = insert transaction.changes key (tr.Put content) }) }
 

@@ -1,8 +1,8 @@
 // What crashes leave of a disk in memory, by a table worked out by hand: a page that was written, or whose write failed, is
 // pending until a sync succeeds, and every other page stays as it was synced.
 
-use blob_base::{Bytes64, IoFault};
-use disk_model::{Disk, MemDisk, PAGE_BYTES, Pick};
+use blob_base::{Bytes64, IoFault, PAGE_BYTES};
+use disk_model::{Disk, MemDisk, Pick};
 use std::process::Abort;
 use std::test::Fail;
 

@@ -2,8 +2,8 @@
 
 ghost use Rattle.std.specs.Prelude.{◌≡◌};
 
-use blob_base::{Bytes64, IoFault};
-use disk_model::{Disk, Layout, MemDisk, PAGE_BYTES, Page};
+use blob_base::{Bytes64, IoFault, PAGE_BYTES};
+use disk_model::{Disk, Layout, MemDisk, Page};
 use std::process::Abort;
 use std::test::Fail;
 

@@ -4,11 +4,12 @@ ghost use Rattle.std.specs.Prelude.{◌≡◌, ◌<◌, ◌≤◌, length};
 ghost use Rattle.store_model.specs.Holds.{place_of};
 ghost use Rattle.store_model.specs.Space.{Apart, AreBlocks, blocks_of};
 
+use crate::tuples::five_heads;
 use arrayvec::ArrayVec;
-use blob_base::Bytes64;
+use blob_base::{Bytes64, PAGE_BYTES};
 use blob_state::{BlobState, Draft};
-use disk_model::{Disk, Layout, MemDisk, PAGE_BYTES};
-use extent_io::{Verdict, gather, pour, verify};
+use disk_model::{Disk, Layout, MemDisk};
+use extent_io::{Verdict, check, gather, pour, verify};
 use std::process::Abort;
 use std::test::Fail;
 
@@ -54,4 +55,63 @@ fn a_content_on_its_page(rt: HostRuntime) -> Result<(), Fail> {
         _ => assert!(rt; false),
     }
     Ok(())
+}
+
+// The state of a content of 20,481 bytes, in five extents and a tail.
+fn long_state<R: Abort>(rt: &R, content: &[u8]) -> BlobState {
+    let draft = Draft::put(content).expect(rt, "a draft");
+    let heads = five_heads();
+    let size = draft.size();
+    assert!(rt; draft.marks().len() == 5);
+    assert!(rt; 0 < size % 4096);
+    draft.place(&heads, Some(6), 1)
+}
+
+fn value<R: Abort>(rt: &R, text: &str) -> [u8; 32] {
+    let mut bytes = [0; 32];
+    assert!(rt; hex::decode_to_slice(text, &mut bytes).is_ok());
+    bytes
+}
+
+fn expect_verdict<R: Abort>(rt: &R, state: &BlobState, content: &[u8], expected: Verdict) {
+    let size = state.size();
+    assert!(rt; size == content.len() as u64);
+    let found = check(state, content);
+    assert!(rt; found == expected, "{found:?}");
+}
+
+// A content of 20,481 bytes, whole, and then with one byte changed: one of the second extent, and the last. The values
+// are those that a Python program gives.
+#[test]
+fn contents_in_memory(rt: HostRuntime) {
+    let mut content = [7; 20_481];
+    let state = long_state(&rt, &content);
+    expect_verdict(&rt, &state, &content, Verdict::Whole);
+    content[5000] = 8;
+    let second = Verdict::Damaged {
+        link: 1,
+        want: value(
+            &rt,
+            "219aad1ed128bebc47d8ab81833f39ea62bf95ad4096ade82e422d153c7319ab",
+        ),
+        got: value(
+            &rt,
+            "8aaa20fed54fcc148a822c4c5b2faf5e3c9dbbbc22d44cc64063106574d6c2fb",
+        ),
+    };
+    expect_verdict(&rt, &state, &content, second);
+    content[5000] = 7;
+    content[20_480] = 8;
+    let last = Verdict::Damaged {
+        link: 5,
+        want: value(
+            &rt,
+            "38c021ff60bde98ec7c83d3caf003f9433dee463f3dd1f65ec4658e80630218b",
+        ),
+        got: value(
+            &rt,
+            "145887f0f499a3d527ab344649123eeb86c88b24bb2d06bdf6b976067cf59d44",
+        ),
+    };
+    expect_verdict(&rt, &state, &content, last);
 }

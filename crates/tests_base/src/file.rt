@@ -1,8 +1,8 @@
 ghost use Rattle.std.specs.Prelude.{◌≡◌, ◌<◌};
 
-use blob_base::IoFault;
+use blob_base::{IoFault, PAGE_BYTES};
 use disk_file::{FileDisk, OpenFailed};
-use disk_model::{Disk, PAGE_BYTES};
+use disk_model::Disk;
 use std::fs;
 use std::fs::File;
 use std::process::Abort;

@@ -28,4 +28,6 @@ mod space;
 #[cfg(test)]
 mod states;
 #[cfg(test)]
+mod syncs;
+#[cfg(test)]
 mod tuples;

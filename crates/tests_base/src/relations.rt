@@ -25,7 +25,8 @@ fn set<R: Abort>(rt: &R, relation: &mut Relation, key: &str, content: &[u8], pag
 {
     let key = Key::read(key.as_bytes()).expect(rt, "a key");
     let state = state_of(rt, content, page);
-    assert!(rt; relation.bytes() < 1_000);
+    let longer = state.encoded(&key);
+    assert!(rt; relation.bytes() < 1_000 && longer < 1_000);
     relation.set(key, state);
 }
 

@@ -44,7 +44,11 @@ const ROWS: [(u32, u32, u32, u32, u32); 11] = [
 fn expect_row<R: Abort>(rt: &R, row: (u32, u32, u32, u32, u32)) {
     let (number, pages, first, last, end) = row;
     assert!(rt;
-        first < MAX_EXTENTS && last < MAX_EXTENTS && 0 < end && end <= MAX_PAGES && 0 < pages
+        (first as usize) < MAX_EXTENTS
+            && (last as usize) < MAX_EXTENTS
+            && 0 < end
+            && end <= MAX_PAGES
+            && 0 < pages
     );
     assert!(rt; tier(first) == number && tier(last) == number);
     let expected = Place {

@@ -4,7 +4,7 @@ ghost use Rattle.std.specs.Prelude.{◌≤◌};
 
 use arrayvec::ArrayVec;
 use blob_base::{Bytes, Key, Owned};
-use blob_state::{BlobState, Draft, encode, encode_into};
+use blob_state::{BlobState, Draft, MAX_TUPLE_BYTES, encode, encode_into, stored_bytes};
 use std::alloc::{AllocError, Global};
 use std::process::Abort;
 use std::test::Fail;
@@ -147,8 +147,29 @@ fn what_a_state_answers(rt: HostRuntime) {
     assert_eq!(rt; state.tail(), Some(6));
     assert_eq!(rt; state.extents().len(), 0);
     assert!(rt; &state.prefix()[..4] == b"abc\0".as_slice());
-    assert_eq!(rt; state.print().size, 3);
-    assert!(rt; state.print().digest == *state.digest());
+}
+
+// A state is made again of its parts, and a draft of its own.
+#[test]
+fn states_and_drafts_of_their_parts(rt: HostRuntime) {
+    let parts = small_state(&rt, b"abc", 6).into_parts();
+    assert!(rt; parts.tail == Some(6) && parts.extents.len() == 0);
+    let state = BlobState::from_parts(parts);
+    assert!(rt; state.born() == 1 && state.tail() == Some(6));
+    let parts = Draft::put(&[7; 4096]).expect(&rt, "a draft").into_parts();
+    assert!(rt; parts.size == 4096 && parts.marks.len() == 1);
+    let draft = Draft::from_parts(parts);
+    assert!(rt; draft.size() == 4096 && draft.marks().len() == 1);
+}
+
+// What is stored of states, without the states.
+#[test]
+fn stored_bytes_of_some_shapes(rt: HostRuntime) {
+    let key = Key::read(b"demo/a").expect(&rt, "a key");
+    assert_eq!(rt; stored_bytes(&key, 0, None), 83);
+    assert_eq!(rt; stored_bytes(&key, 5, None), 263);
+    assert_eq!(rt; stored_bytes(&key, 0, Some(6)), 87);
+    assert_eq!(rt; 65 + 76 + 36 * 127 + 4, MAX_TUPLE_BYTES);
 }
 
 // An extent of one page and a tail stand behind what is owned already.

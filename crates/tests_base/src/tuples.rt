@@ -7,6 +7,7 @@ use arrayvec::ArrayVec;
 use blob_base::Key;
 use blob_state::{BlobState, Draft, decode, encode_into};
 use std::process::Abort;
+use tier_table::MAX_EXTENTS;
 
 // The key `demo/a` and a content of the three bytes `abc`, with its tail on page 0.
 fn small_tuple<R: Abort>(rt: &R) -> [u8; 87] {
@@ -134,7 +135,7 @@ fn faults_of_extents(rt: HostRuntime) {
 }
 
 // Five heads, of which the fifth is that of two pages.
-fn five_heads() -> ArrayVec<u32, 127>
+pub(crate) fn five_heads() -> ArrayVec<u32, MAX_EXTENTS>
     ensures count { length result.items ≡ 5 }
     ensures aligned { AreAligned result.items }
 {

@@ -2,7 +2,7 @@
 
 ghost use Rattle.std.specs.Prelude.{false};
 ghost use Rattle.disk_model.specs.Memory.{disk_faults, disk_size};
-ghost use Rattle.store_model.specs.Images.{untold};
+ghost use Rattle.disk_model.specs.Disks.{untold};
 
 use crate::trial::Trial;
 use blob_base::{Bytes, Bytes64, IoFault, Key};

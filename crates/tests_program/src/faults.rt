@@ -5,7 +5,7 @@ use blob_base::Bytes;
 use blob_steps::Status;
 use std::test::Fail;
 
-// Two puts, one of them of two extents and a tail, and a get of it. The disk takes four writes, a sync and six reads.
+// Two puts, one of them of two extents and a tail, and a get of it. The disk takes four writes, a sync and three reads.
 const TWO_PUTS: &[u8] =
     b"0 begin\n0 put a/b x:01\n0 put a/a g:8193:9\n0 commit\nlead\n0 begin\n0 get a/a\n";
 
@@ -58,7 +58,7 @@ fn a_sink_that_takes_nothing(rt: HostRuntime) {
 fn disk_calls_that_fail(rt: HostRuntime) -> Result<(), Fail> {
     let front = b"0 begun\n0 put\n0 put\n0 queued\ndisk fault\n".as_slice();
     let all = b"0 begun\n0 put\n0 put\n0 queued\n0 committed 1\n0 begun\ndisk fault\n".as_slice();
-    for call in 1..12 {
+    for call in 1..9 {
         let trial = Trial {
             failing_disk_calls: &[call],
             ..Trial::of(TWO_PUTS)
@@ -67,7 +67,7 @@ fn disk_calls_that_fail(rt: HostRuntime) -> Result<(), Fail> {
         trial.expect(&rt, output, &Status::DiskFault);
     }
     let trial = Trial {
-        failing_disk_calls: &[12],
+        failing_disk_calls: &[9],
         ..Trial::of(TWO_PUTS)
     };
     let mut output = Bytes::of(

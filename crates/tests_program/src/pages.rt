@@ -2,9 +2,9 @@
 // multiple of its pages.
 
 use crate::trial::{Ended, FIRST, Trial, append_made, made_page};
-use blob_base::Bytes;
+use blob_base::{Bytes, PAGE_BYTES};
 use blob_steps::Status;
-use disk_model::{Disk, MemDisk, PAGE_BYTES};
+use disk_model::{Disk, MemDisk};
 use std::process::Abort;
 use std::test::Fail;
 
@@ -41,8 +41,8 @@ fn expect_made<R: Abort>(
 #[test]
 fn a_content_stands_on_the_first_data_page(rt: HostRuntime) -> Result<(), Fail> {
     let mut ended = Trial::of(FIRST).run(rt.alloc())?;
-    // The get reads the page twice, and the stat doesn't.
-    assert_eq!(rt; ended.disk.calls(), (2, 1, 1));
+    // The get reads the page once, and the stat doesn't.
+    assert_eq!(rt; ended.disk.calls(), (1, 1, 1));
     expect_page(&rt, &mut ended, 1028, b"");
     expect_page(&rt, &mut ended, 1029, b"abc");
     expect_page(&rt, &mut ended, 1030, b"");
@@ -70,7 +70,7 @@ fn an_empty_content_takes_no_page(rt: HostRuntime) -> Result<(), Fail> {
     let script =
         b"0 begin\n0 put a/a x:61\n0 put a/b x:\n0 put a/c x:63\n0 commit\nlead\n0 begin\n0 get a/b\n0 get a/c\n";
     let mut ended = Trial::of(script).run(rt.alloc())?;
-    assert_eq!(rt; ended.disk.calls(), (2, 2, 1));
+    assert_eq!(rt; ended.disk.calls(), (1, 2, 1));
     expect_page(&rt, &mut ended, 1029, b"a");
     expect_page(&rt, &mut ended, 1030, b"c");
     expect_page(&rt, &mut ended, 1031, b"");
@@ -145,7 +145,7 @@ fn a_photograph(rt: HostRuntime) -> Result<(), Fail> {
     output.append(rt.alloc(), b"\n")?;
     let mut ended = Trial::of(script).run(rt.alloc())?;
     ended.expect(&rt, output.as_slice(), &Status::Done);
-    assert_eq!(rt; ended.disk.calls(), (1466, 733, 1));
+    assert_eq!(rt; ended.disk.calls(), (733, 733, 1));
     for (data_page, number, count) in [
         (0, 0, 4096),
         (27, 27, 4096),
@@ -195,7 +195,7 @@ fn a_request_without_a_place_changes_nothing(rt: HostRuntime) -> Result<(), Fail
         b"0 begun\n0 put\n0 queued\n0 committed 1\n0 begun\n0 put\n0 put\n0 queued\n0 no-space demo/b 8\n0 begun\n0 value 1 61\n0 absent\n0 put\n0 queued\n0 committed 2\n",
         &Status::Done,
     );
-    assert_eq!(rt; ended.disk.calls(), (2, 2, 2));
+    assert_eq!(rt; ended.disk.calls(), (1, 2, 2));
     expect_page(&rt, &mut ended, 1029, b"a");
     expect_page(&rt, &mut ended, 1030, b"c");
     expect_page(&rt, &mut ended, 1031, b"");

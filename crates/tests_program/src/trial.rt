@@ -2,9 +2,9 @@
 
 ghost use Rattle.std.specs.Prelude.{◌<◌, ◌≤◌};
 
-use blob_base::{Bytes, Bytes64, OutOfMemory, Word};
+use blob_base::{Bytes, Bytes64, OutOfMemory, PAGE_BYTES, Word};
 use blob_steps::{Status, run_alone};
-use disk_model::{Disk, MemDisk, PAGE_BYTES, Page};
+use disk_model::{Disk, MemDisk, Page};
 use io_ends::{MemSink, MemSource};
 use std::alloc::Global;
 use std::process::Abort;

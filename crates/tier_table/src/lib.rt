@@ -23,19 +23,17 @@ ghost use Rattle.tier_table.specs.Values.{shape_of};
 
 mod values;
 
+use blob_base::PAGE_BYTES;
 pub use values::{Place, Shape, TooLong};
 
 /// The greatest size of a content, in bytes.
 pub const MAX_SIZE: u64 = 381_669_375;
 
 /// How many extents the greatest content has.
-pub const MAX_EXTENTS: u32 = 127;
+pub const MAX_EXTENTS: usize = 127;
 
 /// How many full pages the greatest content has.
 pub const MAX_PAGES: u32 = 93_180;
-
-// How many bytes a page has.
-const PAGE_BYTES: u64 = 4096;
 
 // How many extents each tier has, but for the last.
 const TIER_EXTENTS: u32 = 4;
@@ -109,11 +107,11 @@ pub fn shape(size: u64) -> Result<Shape, TooLong>
     if size > MAX_SIZE {
         return Err(TooLong { size });
     }
-    let full = (size / PAGE_BYTES) as u32;
+    let full = (size / PAGE_BYTES as u64) as u32;
     Ok(Shape {
         full,
         extents: extents_for(full),
-        tail: (size % PAGE_BYTES) as u32,
+        tail: (size % PAGE_BYTES as u64) as u32,
     })
 }
 
@@ -124,6 +122,6 @@ pub fn used(size: u64, i: u32) -> u32
     requires within { UsesExtent size i }
     ensures { result ≡ pages_used size i }
 {
-    let full = (size / PAGE_BYTES) as u32;
+    let full = (size / PAGE_BYTES as u64) as u32;
     tier_pages(tier(i)).min(full - held_before(i))
 }

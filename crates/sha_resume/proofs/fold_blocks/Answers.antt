@@ -1,6 +1,6 @@
 use Rattle.std.proofs.Common.{◌≡◌, ℕ, ◌+◌, ◌-◌, ◌*◌, ◌/◌, List, ◌∙◌, sym, ap, length, refl, arith, take, drop}
 use Rattle.std.specs.Prelude.{fold}
-use Rattle.sha2.specs.Sha256.{compress}
+use Rattle.store_model.specs.BlockFunction.{compress}
 use Rattle.store_model.specs.Hash.{blocks, state_after}
 use Rattle.sha_resume.proofs.Ends.{fold-blocks_next}
 use Rattle.sha_resume.proofs.fold_blocks.Goals as goal

@@ -1,6 +1,6 @@
 use Rattle.std.proofs.Common.{◌≡◌}
 use Rattle.std.specs.Prelude.{fold}
-use Rattle.sha2.specs.Sha256.{compress}
+use Rattle.store_model.specs.BlockFunction.{compress}
 use Rattle.store_model.specs.Hash.{blocks}
 use Rattle.sha_resume.proofs.fold_blocks.Given as goal
 

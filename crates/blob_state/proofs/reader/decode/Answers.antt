@@ -1,11 +1,12 @@
 -- What was read of a tuple, put together.
-use Rattle.std.proofs.Common.{rules, ◌≡◌, ℕ, ◌+◌, ◌*◌, List, length, sym, ap, ◌∙◌, arith}
+use Rattle.std.proofs.Common.{rules, ◌≡◌, ℕ, ◌+◌, ◌*◌, List, length, sym, ◌∙◌, arith}
 use Rattle.std.proofs.lemmas.Result.{MatchResult-weaker, err_from_is_err_and}
 use Rattle.std.proofs.lemmas.List.{length-map}
 use Rattle.store_model.specs.State.{Extent, HasExtents, IsState, State}
 use Rattle.store_model.specs.Tuple.{tail_spelling}
 use Rattle.store_model.specs.TupleFields.{content_at}
 use Rattle.store_model.proofs.StateLaws.{length-spelling}
+use Rattle.store_model.proofs.StoredLaws.{length-tail_spelling}
 use Rattle.store_model.proofs.FieldLaws.{AreBytes}
 use Rattle.store_model.proofs.TupleFieldLaws.{AreAllGood, IsAtFront-not_bad, IsAtFront-told, IsTailTold, IsTold, IsBadTuple-content, IsBadTuple-extents, IsBadTuple-key, IsBadTuple-tail, content_at-key}
 use Rattle.store_model.proofs.TupleLaws.{spelling-unique}
@@ -118,9 +119,8 @@ returns-clause-length c =
     let key : List ℕ = c.in_ok-key.key in
     let is : IsState state = (returns-clause-front c).tuple.stands in
     let number : length state.extents ≡ length items = length-map items extent_of in
-    let sum : 1 + length c.text.result.now + 76 + 36 * c.len.result + c.tail_bytes.result
-    ≡ 1 + length key + 76 + 36 * length state.extents + length (tail_spelling state.tail) =
-    omega (arith, number, ap length c.text.ensures.text, c.len.ensures.value, c.tail_bytes.ensures.value) in
+    let sum : c.stored_bytes-length.result ≡ 1 + length key + 76 + 36 * length state.extents + length (tail_spelling state.tail) =
+    omega (arith, number, length-tail_spelling state.tail, c.len-2.ensures.value, c.stored_bytes-length.ensures.value) in
     sum ∙ sym (length-spelling key state is.digest is.prefix.bytes is.marks)
 
 pub returns-clause-one : goal.returns-clause-one

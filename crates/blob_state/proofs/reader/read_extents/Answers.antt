@@ -3,9 +3,10 @@ use Rattle.std.proofs.Common.{rules, ◌≡◌, ℕ, ◌+◌, ◌*◌, List, [],
 use Rattle.std.proofs.lemmas.List.{length-map, map-append}
 use Rattle.std.proofs.lemmas.Result.{err_from_is_err_and}
 use Rattle.std.specs.List.{flat_map, range_with_len}
-use Rattle.store_model.specs.TupleFields.{extent_fields}
-use Rattle.store_model.proofs.FieldLaws.{AreGood, AreGood-append}
-use Rattle.store_model.proofs.TupleFieldLaws.{AreExtentsTold-next, IsExtentTold, IsFirstBroken-extents, extent_fields-next}
+use Rattle.store_model.specs.Field.{AreGood}
+use Rattle.store_model.specs.TupleFields.{IsExtentTold, extent_fields}
+use Rattle.store_model.proofs.FieldLaws.{AreGood-append}
+use Rattle.store_model.proofs.TupleFieldLaws.{AreExtentsTold-next, IsFirstBroken-extents, extent_fields-next}
 use Rattle.blob_state.specs.declared.values.Extent.{Extent}
 use Rattle.blob_state.specs.Values.{extent_of, extents_of}
 use Rattle.blob_state.proofs.reader.read_extents.Goals as goal

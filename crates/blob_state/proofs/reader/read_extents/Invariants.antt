@@ -1,8 +1,7 @@
 use Rattle.std.proofs.Common.{◌≡◌, ◌+◌, ◌*◌, ◌≤◌, length}
 use Rattle.std.specs.List.{flat_map, range_with_len}
-use Rattle.store_model.specs.TupleFields.{extent_fields}
-use Rattle.store_model.proofs.FieldLaws.{AreGood}
-use Rattle.store_model.proofs.TupleFieldLaws.{AreExtentsTold}
+use Rattle.store_model.specs.Field.{AreGood}
+use Rattle.store_model.specs.TupleFields.{AreExtentsTold, extent_fields}
 use Rattle.blob_state.specs.Values.{extents_of}
 use Rattle.blob_state.proofs.reader.read_extents.Given as goal
 

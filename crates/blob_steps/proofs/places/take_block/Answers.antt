@@ -1,6 +1,6 @@
 use Rattle.std.proofs.Common.{[], ◌≡◌}
 use Rattle.std.proofs.lemmas.Result.{err_from_is_err_and}
-use Rattle.blob_steps.proofs.Takings.{Fails-block, Takes-none, Took-block}
+use Rattle.blob_steps.proofs.Takings.{Fails-block, Takes-none, TakesHeads-block}
 use Rattle.blob_steps.proofs.places.take_block.Goals as goal
 
 pub returns-in_err-head-clause-fault : goal.returns-in_err-head-clause-fault
@@ -14,4 +14,4 @@ returns-in_err-head-clause-fault c =
 
 pub returns-clause-found : goal.returns-clause-found
 returns-clause-found c =
-    Took-block c.args.tier c.in_ok-head.head c.args.space.now c.reserve.new.self c.take.new.self c.reserve.ensures.owned c.reserve.ensures.pages c.in_ok-head.ensures.fit c.in_ok-head.ensures.owned
+    TakesHeads-block c.args.tier c.in_ok-head.head c.args.space.now c.reserve.new.self c.take.new.self c.reserve.ensures.owned c.reserve.ensures.pages c.in_ok-head.ensures.fit c.in_ok-head.ensures.owned

@@ -1,7 +1,7 @@
 use Rattle.std.proofs.Common.{[], ◌∷◌, ◌+◌, ◌≡◌, ◌%◌, List, ℕ, sym, subst, arith}
 use Rattle.std.proofs.lemmas.Result.{err_from_is_err_and}
 use Rattle.store_model.specs.Shape.{pages_of_tier}
-use Rattle.blob_steps.specs.Places.{IsTakeFault, Takes, Took}
+use Rattle.blob_steps.specs.Places.{IsTakeFault, Takes, TakesHeads}
 use Rattle.blob_steps.proofs.Takings.{TakingExtents, TakingExtents-fails, TakingExtents-next, listed-count}
 use Rattle.blob_steps.proofs.places.take_extents.Goals as goal
 
@@ -20,6 +20,6 @@ pub taken-preserved : goal.taken-preserved
 taken-preserved c =
     subst (λ (heads : List ℕ). TakingExtents (c.taken.i + 1) heads c.args.space.now c.take_block.new.space c.args.taken.now c.take_block.new.taken) (sym c.push.ensures.items)
     (TakingExtents-next c.taken.i c.in_ok-take_block.field-0 c.taken.heads.items c.args.space.now c.taken.space c.take_block.new.space c.args.taken.now c.taken.taken c.take_block.new.taken c.taken.invariant
-    (subst (λ (tier : ℕ). Took (tier ∷ []) (c.in_ok-take_block.field-0 ∷ []) c.taken.space c.take_block.new.space) c.tier.ensures c.in_ok-take_block.ensures.found)
+    (subst (λ (tier : ℕ). TakesHeads (tier ∷ []) (c.in_ok-take_block.field-0 ∷ []) c.taken.space c.take_block.new.space) c.tier.ensures c.in_ok-take_block.ensures.found)
     (subst (λ (tier : ℕ). Takes ((c.in_ok-take_block.field-0, tier) ∷ []) c.taken.space c.take_block.new.space c.taken.taken c.take_block.new.taken) c.tier.ensures c.in_ok-take_block.ensures.takes)
     (subst (λ (tier : ℕ). c.in_ok-take_block.field-0 % pages_of_tier tier ≡ 0) c.tier.ensures c.in_ok-take_block.ensures.aligned))

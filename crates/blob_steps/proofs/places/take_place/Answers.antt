@@ -3,7 +3,7 @@ use Rattle.std.proofs.lemmas.Result.{err_from_is_err_and}
 use Rattle.store_model.specs.Space.{extent_blocks, tail_blocks}
 use Rattle.store_model.specs.Transaction.{content_of}
 use Rattle.blob_steps.specs.Places.{tail_list}
-use Rattle.blob_steps.proofs.Placing.{Fits-taken, IsTakeFault-extents, IsTakeFault-tail, Took-place, listed-few}
+use Rattle.blob_steps.proofs.Placing.{Fits-taken, IsTakeFault-extents, IsTakeFault-tail, TakesHeads-place, listed-few}
 use Rattle.blob_steps.proofs.Takings.{Takes-then}
 use Rattle.blob_steps.proofs.places.take_place.Goals as goal
 
@@ -24,7 +24,7 @@ returns-in_err-tail-clause-fault c =
 
 pub returns-clause-found : goal.returns-clause-found
 returns-clause-found c =
-    Took-place (length (content_of c.args.change.now)) c.extents.result c.in_ok-heads.heads.items (tail_list c.in_ok-tail.tail) c.has_tail.result c.args.space.now c.take_extents.new.space c.take_tail.new.space
+    TakesHeads-place (length (content_of c.args.change.now)) c.extents.result c.in_ok-heads.heads.items (tail_list c.in_ok-tail.tail) c.has_tail.result c.args.space.now c.take_extents.new.space c.take_tail.new.space
     c.extents.ensures.count c.has_tail.ensures c.in_ok-heads.ensures.takes.pages c.in_ok-heads.ensures.found c.in_ok-tail.ensures.found
 
 pub returns-clause-takes : goal.returns-clause-takes

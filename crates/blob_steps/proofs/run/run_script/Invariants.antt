@@ -1,30 +1,29 @@
-use Rattle.std.proofs.Common.{◌≡◌, ℕ, ◌+◌, ◌≤◌, Bool, IsTrue, List, Some}
+use Rattle.std.proofs.Common.{◌≡◌, ℕ, ◌+◌, ◌≤◌}
 use Rattle.std.specs.Io.KnownBytes.{prepend_known}
+use Rattle.disk_model.specs.declared.disk.Disk as disk_trait
+use Rattle.io_ends.specs.declared.traits.Source as source_trait
+use Rattle.io_ends.specs.declared.traits.Sink as sink_trait
 use Rattle.store_model.specs.Layout.{Layout}
-use Rattle.store_model.specs.Play.{play}
+use Rattle.store_model.specs.Store.{empty_store}
+use Rattle.blob_steps.specs.Going.{Going}
+use Rattle.blob_steps.specs.Runs.{KeepsEnds}
 use Rattle.blob_steps.specs.Steps.{weight}
-use Rattle.blob_steps.specs.Runs.{AtWorld, Going, Later, Counts}
 use Rattle.blob_steps.specs.Stores.{IsSound}
 use Rattle.blob_steps.proofs.run.run_script.Given as goal
 
 -- what holds whatever the disk and the source tell
-pub record Kept (mine_layout layout : Layout) (weight_now number size_before size_now : ℕ) (before now : Counts) (was frugal : Bool) : Type 0 where
+pub record Kept {S K D : Type 0} (source : source_trait.Ghosts S) (sink : sink_trait.Ghosts K) (disk : disk_trait.Ghosts D) (mine_layout layout : Layout) (weight_now number : ℕ)
+    (source_old : S) (sink_old : K) (disk_old : D) (source_new : S) (sink_new : K) (disk_new : D) : Type 0 where
   pub layout_is : mine_layout ≡ layout
   pub light : weight_now + 1 ≤ number
-  pub size : size_now ≡ size_before
-  pub later : Later before now
-  pub same : frugal ≡ was
+  pub keeps : KeepsEnds source sink disk source_old sink_old disk_old source_new sink_new disk_new
 
 abbrev pub invariant-loop-number : goal.invariant-loop-number
 invariant-loop-number g l =
-    let disk = g.D.Disk in
     let source = g.S.Source in
     let sink = g.K.Sink in
-    (IsTrue disk.tells → (script : List ℕ) → source.left l.fn.source ≡ Some script
-    → Going (disk.story l.fn.disk).reads (disk.story l.disk).reads l.run.world l.number (prepend_known l.run.reader (source.left l.source)) (sink.taken l.fn.sink) (sink.taken l.sink) (play l.fn.layout script))
-    × (IsTrue disk.tells → AtWorld (disk.story l.disk).reads l.run.world)
+    Going g.D.Disk empty_store l.run.world l.number (source.left l.fn.source) (prepend_known l.run.reader (source.left l.source))
+    (sink.taken l.fn.sink) (sink.taken l.sink) l.fn.disk l.disk
     × IsSound l.run.world.store
-    × Kept l.run.world.store.layout l.fn.layout (weight l.run.world) l.number (disk.size l.fn.disk) (disk.size l.disk)
-    (record { source = source.faults l.fn.source; sink = sink.faults l.fn.sink; disk = disk.faults l.fn.disk })
-    (record { source = source.faults l.source; sink = sink.faults l.sink; disk = disk.faults l.disk })
-    (sink.frugal l.fn.sink) (sink.frugal l.sink)
+    × Kept source sink g.D.Disk l.run.world.store.layout l.fn.layout (weight l.run.world) l.number
+    l.fn.source l.fn.sink l.fn.disk l.source l.sink l.disk

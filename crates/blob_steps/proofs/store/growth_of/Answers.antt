@@ -21,10 +21,10 @@ added-preserved c =
           omega (
             arith,
             so_far.replaced,
-            c.stored_bytes.ensures.value,
+            c.old_bytes.ensures.value,
             ap (replaced_bytes states) c.index-writes-i-in-added.is,
             sum_by_more (replaced_bytes states) c.args.writes.now c.added.i other c.added-test.true,
           );
       few = omega (arith, so_far.few, c.bytes.ensures.most);
-      few_replaced = omega (arith, so_far.few_replaced, c.stored_bytes.ensures.most);
+      few_replaced = omega (arith, so_far.few_replaced, c.old_bytes.ensures.most);
     }

@@ -1,29 +1,39 @@
-use Rattle.std.proofs.Common.{◌≡◌, ℕ, ◌-◌, Ok, min, sym, ◌∙◌, ap, subst}
-use Rattle.store_model.specs.Disk.{Image}
-use Rattle.store_model.specs.Holds.{Holds, place_of}
+use Rattle.std.proofs.Common.{rules, ◌∙◌, ap, refl, take}
+use Rattle.store_model.specs.Holds.{Holds}
 use Rattle.store_model.specs.Layout.{data_page}
-use Rattle.store_model.specs.Answer.{Value}
-use Rattle.blob_steps.proofs.Values.{damage-none, gathered}
+use Rattle.store_model.proofs.HoldsLaws.{FailsFirst-held, Verifies-LeadsTo}
+use Rattle.blob_steps.proofs.Values.{read-held, written-whole}
 use Rattle.blob_steps.proofs.store.read_value.Goals as goal
 
-pub returns-in_ok-gather-in-Whole-clause-line : goal.returns-in_ok-gather-in-Whole-clause-line
-returns-in_ok-gather-in-Whole-clause-line g c = λ tells content told held.
-    let read = c.in_ok-gather-in-Whole.ensures in
-    let now : (g.D.Disk.story c.verify.new.disk).reads ≡ (g.D.Disk.story c.args.disk.now).reads =
-    (c.verify.ensures.images tells).reads in
-    let stays = subst (λ (image : Image). Holds image (data_page c.args.layout) (place_of c.args.state.now) content)
-    (sym now) held in
-    ap Value
-    (gathered content c.gather.new.into _ c.from_vec.result c.args.state.now.size _ c.in_ok-gather-in-Whole.field-0 told.size
-    (c.in_ok-content-in-Whole.ensures.len ∙ c.size-size.ensures.value)
-    (read.length ∙ c.deref_mut.ensures.len)
-    (read.count ∙ ap (λ (n : ℕ). min n (c.args.state.now.size - 0)) c.deref_mut.ensures.len)
-    (read.bytes tells content (sym told.size) stays)
-    c.from_vec.ensures)
+pub returns-in-Whole-clause-verifies : goal.returns-in-Whole-clause-verifies
+returns-in-Whole-clause-verifies g c = λ tells.
+    let story = g.D.Disk.story c.args.disk.now in
+    let read = c.in_ok-gather.ensures in
+    let held : Holds story.reads (data_page c.args.layout) c.args.state.now c.deref.result.now =
+    read-held story.reads (data_page c.args.layout) c.args.state.now c.deref.result.now c.in_ok-gather.field-0
+    (story.pages story.time story.reads story.own) c.rules.ensures (search rules) (search rules)
+    (λ content holds. ap (take c.in_ok-gather.field-0) (written-whole _ c.gather.new.into _ c.deref.result.now c.deref.ensures.value (search rules))
+    ∙ read.bytes tells content holds) in
+    Verifies-LeadsTo story.reads (data_page c.args.layout) c.args.state.now c.deref.result.now held (c.in-Whole.ensures.whole refl)
 
-pub returns-in-Damaged-clause-line : goal.returns-in-Damaged-clause-line
-returns-in-Damaged-clause-line g c = λ tells content told held.
-    damage-none (g.D.Disk.story c.args.disk.now).reads (data_page c.args.layout) c.args.state.now content c.in-Damaged.link
-    c.in-Damaged.want c.in-Damaged.got c.size-size.ensures.rules told held
-    (c.verify.ensures.damaged tells c.in-Damaged.link c.in-Damaged.want c.in-Damaged.got
-    (c.in_ok-verify.was ∙ ap Ok c.in-Damaged.is))
+pub returns-in-Damaged-clause-damage : goal.returns-in-Damaged-clause-damage
+returns-in-Damaged-clause-damage g c = (
+  c.copy.ensures,
+  record {
+    content = c.deref.result.now;
+    size = search rules;
+    fails = c.in-Damaged.ensures.damaged c.in-Damaged.link c.in-Damaged.want c.in-Damaged.got refl;
+  },
+)
+
+pub returns-in-Damaged-clause-fails : goal.returns-in-Damaged-clause-fails
+returns-in-Damaged-clause-fails g c = λ tells.
+    let story = g.D.Disk.story c.args.disk.now in
+    let read = c.in_ok-gather.ensures in
+    let held : Holds story.reads (data_page c.args.layout) c.args.state.now c.deref.result.now =
+    read-held story.reads (data_page c.args.layout) c.args.state.now c.deref.result.now c.in_ok-gather.field-0
+    (story.pages story.time story.reads story.own) c.rules.ensures (search rules) (search rules)
+    (λ content holds. ap (take c.in_ok-gather.field-0) (written-whole _ c.gather.new.into _ c.deref.result.now c.deref.ensures.value (search rules))
+    ∙ read.bytes tells content holds) in
+    FailsFirst-held story.reads (data_page c.args.layout) c.args.state.now c.deref.result.now c.in-Damaged.link c.in-Damaged.want
+    c.in-Damaged.got held (c.in-Damaged.ensures.damaged c.in-Damaged.link c.in-Damaged.want c.in-Damaged.got refl)

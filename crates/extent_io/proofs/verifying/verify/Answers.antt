@@ -1,5 +1,7 @@
-use Rattle.std.proofs.Common.{◌≡◌, ◌∙◌, refl, arith, le_refl}
+use Rattle.std.proofs.Common.{◌≡◌, arith}
 use Rattle.store_model.specs.Layout.{data_page}
+use Rattle.store_model.specs.Verify.{computed}
+use Rattle.disk_model.proofs.DiskLaws.{Keeps-none, Keeps-then}
 use Rattle.extent_io.proofs.Verifyings.{Verifying-fails, Verifying-next, Verifying-none, fails-as, took-all, took-no_link, told-other, told-same, took-link}
 use Rattle.extent_io.proofs.verifying.verify.Goals as goal
 
@@ -9,7 +11,7 @@ returns-then-ne-clause-damaged g c tells link want got is =
     let number : c.loop-link.link ≡ link = cc is in
     let value : c.kept_value-want.result ≡ want = cc is in
     let other : c.in_ok-got.got ≡ got = cc is in
-    fails-as (disk.story c.args.disk.now).reads (data_page c.args.layout) c.args.state.now c.loop-link.link link c.kept_value-want.result want c.in_ok-got.got got
+    fails-as (computed (disk.story c.args.disk.now).reads (data_page c.args.layout) c.args.state.now) c.args.state.now c.loop-link.link link c.kept_value-want.result want c.in_ok-got.got got
     (Verifying-fails disk.tells (data_page c.args.layout) c.args.state.now c.loop-link.link (disk.story c.args.disk.now) (disk.story c.loop-link.disk)
     c.kept_value-want.result c.in_ok-got.got tells (omega (arith, c.last_link-last.ensures.value)) c.kept_value-want.ensures
     (told-other c.kept_value-want.result c.in_ok-got.got c.ne.result c.if-ne.true c.ne.ensures) c.loop-link.invariant.0 (c.in_ok-got.ensures.value tells))
@@ -21,17 +23,17 @@ loop-link-preserved g c =
     let kept = c.loop-link.invariant.1 in (
       Verifying-next disk.tells (data_page c.args.layout) c.args.state.now c.loop-link.link (disk.story c.args.disk.now) (disk.story c.loop-link.disk) (disk.story c.computed_value.new.disk)
           c.kept_value-want.result c.in_ok-got.got c.kept_value-want.ensures (told-same c.kept_value-want.result c.in_ok-got.got c.ne.result c.if-ne.false c.ne.ensures)
-          c.loop-link.invariant.0 c.in_ok-got.ensures.value c.computed_value.ensures.images,
-      record { size = c.computed_value.ensures.size ∙ kept.size; faults = omega (arith, c.computed_value.ensures.faults, kept.faults); frugal = c.computed_value.ensures.frugal ∙ kept.frugal },
+          c.loop-link.invariant.0 c.in_ok-got.ensures.value c.computed_value.ensures.only_reads.stayed,
+      Keeps-then disk c.args.disk.now c.loop-link.disk c.computed_value.new.disk kept c.computed_value.ensures.only_reads.keeps,
       λ tells. took-link c.args.state.now c.loop-link.link (disk.calls c.args.disk.now) (disk.calls c.loop-link.disk) (disk.calls c.computed_value.new.disk)
-          c.last_link-last.ensures.rules (omega (arith, c.last_link-last.ensures.value)) (c.loop-link.invariant.2 tells) (c.in_ok-got.ensures.reads tells),
+          c.rules.ensures (omega (arith, c.last_link-last.ensures.value)) (c.loop-link.invariant.2 tells) (c.in_ok-got.ensures.reads tells),
     )
 
 pub loop-link-init : goal.loop-link-init
 loop-link-init g c =
     let disk = g.D.Disk in (
       Verifying-none disk.tells (data_page c.args.layout) c.args.state.now (disk.story c.args.disk.now),
-      record { size = refl; faults = le_refl (disk.faults c.args.disk.now); frugal = refl },
+      Keeps-none disk c.args.disk.now,
       λ tells. took-no_link c.args.state.now (disk.calls c.args.disk.now),
     )
 

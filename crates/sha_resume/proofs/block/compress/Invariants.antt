@@ -1,5 +1,5 @@
 use Rattle.std.proofs.Common.{◌*◌}
-use Rattle.sha2.specs.Sha256.{IsRoundsAt}
+use Rattle.sha_resume.specs.Ring.{IsRoundsAt}
 use Rattle.sha_resume.proofs.block.compress.Given as goal
 
 abbrev pub invariant-turns : goal.invariant-turns

@@ -1,5 +1,5 @@
 use Rattle.std.proofs.Common.{refl}
-use Rattle.sha2.specs.Sha256.{rounds}
+use Rattle.store_model.specs.BlockFunction.{rounds}
 use Rattle.sha_resume.proofs.block.early_rounds.Goals as goal
 
 pub returns : goal.returns

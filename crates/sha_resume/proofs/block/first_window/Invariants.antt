@@ -1,7 +1,7 @@
-use Rattle.std.proofs.Common.{◌≡◌, ℕ, ◌*◌, ◌<◌, length, slice_index}
-use Rattle.sha2.specs.Sha256.{word_at}
+use Rattle.std.proofs.Common.{◌≡◌, ℕ, ◌<◌, length, slice_index}
+use Rattle.store_model.specs.BlockFunction.{block_word}
 use Rattle.sha_resume.proofs.block.first_window.Given as goal
 
 abbrev pub invariant-words : goal.invariant-words
 invariant-words l =
-    (length l.window ≡ 16) × ((k : ℕ) → k < l.i → slice_index l.window k ≡ word_at l.block (4 * k))
+    (length l.window ≡ 16) × ((k : ℕ) → k < l.i → slice_index l.window k ≡ block_word l.block k)

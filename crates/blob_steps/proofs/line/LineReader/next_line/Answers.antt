@@ -1,7 +1,8 @@
-use Rattle.std.proofs.Common.{◌≤◌, length, ◌∙◌, arith, inl, inr}
+use Rattle.std.proofs.Common.{◌≤◌, length, arith, inl, inr}
 use Rattle.std.proofs.lemmas.Bool.{both_ways, cases_lt}
 use Rattle.std.specs.Io.KnownBytes.{prepend_known}
 use Rattle.std.specs.List.{position_or_len}
+use Rattle.blob_base.proofs.FaultLaws.{KeepsEnd-then}
 use Rattle.blob_steps.specs.Lines.{is_line_end, LineTaken}
 use Rattle.blob_steps.proofs.Splitting.{Reading-kept, Reading-more, LineTaken-ended, LineTaken-last, LongLine-begun, LongLine-ended, some_bytes}
 use Rattle.blob_steps.proofs.line.LineReader.next_line.Goals as goal
@@ -34,8 +35,8 @@ loop-alloc-preserved g c =
     record {
       reading = Reading-more (prepend_known c.args.self.now (g.S.Source.left c.args.source.now)) (g.S.Source.left c.fill.new.source) ahead c.loop-alloc.line c.take_part.new.line c.take_part.new.self
           (Reading-kept _ _ _ c.loop-alloc.line c.loop-alloc.invariant.reading filled.kept) none part.part part.rest;
-      faults = omega (arith, c.loop-alloc.invariant.faults, filled.faults);
-      same = filled.frugal ∙ c.loop-alloc.invariant.same;
+      keeps = KeepsEnd-then g.S.Source.faults g.S.Source.frugal c.args.source.now c.loop-alloc.source c.fill.new.source
+          c.loop-alloc.invariant.keeps filled.keeps;
     }
 
 pub returns-else-is_empty-clause-line : goal.returns-else-is_empty-clause-line

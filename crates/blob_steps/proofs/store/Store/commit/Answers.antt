@@ -2,13 +2,14 @@ use Rattle.std.proofs.Common.{◌≡◌, ◌+◌, ◌∙◌, List, Some, None, r
 use Rattle.std.specs.List.{sum_by}
 use Rattle.store_model.specs.Answer.{NoSpace}
 use Rattle.store_model.specs.Group.{states_bytes}
-use Rattle.store_model.specs.Disk.{SameOff}
-use Rattle.store_model.specs.Layout.{data_page}
+use Rattle.disk_model.specs.Disks.{OnlyWrites}
+use Rattle.store_model.specs.Disk.{Took}
 use Rattle.store_model.specs.Space.{IsOwnedPage}
 use Rattle.relation.specs.Parts.{encoded_by, owned_by}
 use Rattle.blob_steps.specs.Answers.{model_line}
 use Rattle.blob_steps.specs.Places.{blocks_by, places_of}
-use Rattle.blob_steps.specs.Stores.{SameObjects, objects_with, replaced_bytes, room_line, write_bytes}
+use Rattle.store_model.specs.Standing.{AllStand, SameObjects}
+use Rattle.blob_steps.specs.Stores.{objects_with, replaced_bytes, room_line, write_bytes, write_pages}
 use Rattle.blob_steps.specs.declared.write.Write.{Write}
 use Rattle.blob_steps.proofs.Judging.{Replied-NoRoom, Replied-NoSpace, Replied-commits, given-back, listed-owned, taken-owned}
 use Rattle.blob_steps.proofs.store.Store.commit.Goals as goal
@@ -32,9 +33,9 @@ returns-in-Err-NoSpace-clause-sound g c =
     }
 
 pub returns-in-Err-NoSpace-clause-replied : goal.returns-in-Err-NoSpace-clause-replied
-returns-in-Err-NoSpace-clause-replied g c = λ tells store transaction changes_is stands.
+returns-in-Err-NoSpace-clause-replied g c = λ store transaction changes_is stands.
     let fault = rw c.in-Err-NoSpace.field-0-is at c.in-Err-NoSpace.ensures.fault in
-    Replied-NoSpace (g.D.Disk.story c.args.disk.now).reads c.args.self.now _ store transaction c.args.changes
+    Replied-NoSpace g.D.Disk c.args.disk.now c.args.self.now _ store transaction c.args.changes
     c.in-Err-NoSpace.key
     c.in-Err-NoSpace.tier _ changes_is stands c.requires.sound.pages c.requires.sound.owned fault.0
     (λ i. NoSpace (c.in-Err-NoSpace.key-is i) (c.in-Err-NoSpace.tier-is i)) refl refl refl
@@ -58,9 +59,9 @@ returns-in-Some-clause-sound g c = record {
 }
 
 pub returns-in-Some-clause-replied : goal.returns-in-Some-clause-replied
-returns-in-Some-clause-replied g c = λ tells store transaction changes_is stands.
+returns-in-Some-clause-replied g c = λ store transaction changes_is stands.
     let states = c.args.self.now.relation.states in
-    Replied-NoRoom (g.D.Disk.story c.args.disk.now).reads c.args.self.now _ store transaction c.args.changes
+    Replied-NoRoom g.D.Disk c.args.disk.now c.args.self.now _ store transaction c.args.changes
     c.in-Ok.writes.items
     (model_line c.in-Some.line) changes_is stands c.requires.sound.pages c.requires.sound.owned c.in-Ok.ensures.found
     c.in-Ok.ensures.changes
@@ -78,20 +79,26 @@ write_all-requires-clause-owned g c =
     c.as_slice-in-None.ensures.value
 
 pub returns-clause-replied : goal.returns-clause-replied
-returns-clause-replied g c = λ tells store transaction changes_is stands.
+returns-clause-replied g c = λ store transaction changes_is stands.
     let states = c.args.self.now.relation.states in
+    let layout = c.args.self.now.layout in
+    let number = c.args.self.now.last + 1 in
+    let disk = g.D.Disk in
     let done = c.in_ok-number-in-None.ensures in
-    Replied-commits (g.D.Disk.story c.args.disk.now).reads (g.D.Disk.story c.write_all.new.disk).reads c.args.self.now
+    let same = c.as_slice-in-None.ensures.value in
+    Replied-commits disk c.args.disk.now c.write_all.new.disk c.args.self.now
     c.write_all.new.self store transaction c.args.changes c.in-Ok.writes.items c.in_ok-number-in-None.number changes_is stands
     c.requires.sound.pages c.requires.sound.owned c.in-Ok.ensures.found c.in-Ok.ensures.changes
     (subst (λ (ws : List Write). None
     ≡ room_line (encoded_by states) (sum_by write_bytes ws) (sum_by (replaced_bytes states) ws)
-    (states_bytes c.args.self.now.layout))
+    (states_bytes layout))
     c.as_slice.ensures.value c.in-None.ensures)
-    (subst (λ (ws : List Write). SameObjects (g.D.Disk.story c.write_all.new.disk).reads (data_page c.args.self.now.layout)
-    c.write_all.new.self.relation.states (objects_with (c.args.self.now.last + 1) store.objects ws))
-    c.as_slice-in-None.ensures.value (done.objects tells store.objects stands.objects))
-    (subst (λ (ws : List Write). SameOff (IsOwnedPage c.args.self.now.layout (blocks_by (places_of ws)))
-    (g.D.Disk.story c.args.disk.now).reads (g.D.Disk.story c.write_all.new.disk).reads)
-    c.as_slice-in-None.ensures.value (done.others tells))
+    (subst (λ (ws : List Write). SameObjects c.write_all.new.self.relation.states (objects_with number store.objects ws))
+    same (done.objects store.objects stands.objects))
+    (λ tells all. subst (λ (ws : List Write). AllStand (disk.story c.write_all.new.disk).reads layout
+    (objects_with number store.objects ws)) same (done.stand tells store.objects stands.objects all))
+    (subst (λ (ws : List Write). OnlyWrites disk (IsOwnedPage layout (blocks_by (places_of ws))) c.args.disk.now
+    c.write_all.new.disk) same c.write_all.ensures.wrote)
+    (λ tells. subst (λ (ws : List Write). Took 0 (sum_by write_pages ws) 1 (disk.calls c.args.disk.now)
+    (disk.calls c.write_all.new.disk)) same (done.calls tells))
     done.layout done.last done.number

@@ -4,7 +4,7 @@ use Rattle.store_model.specs.Turn.{Begin, Put, Commit}
 use Rattle.blob_script.specs.Contents.{content_bytes}
 use Rattle.blob_steps.specs.Answers.{model_line}
 use Rattle.blob_steps.specs.Sessions.{model_session}
-use Rattle.blob_steps.proofs.Turns.{Stands-turn, change_count-turned}
+use Rattle.blob_steps.proofs.Turns.{CameTo-known, change_count-turned}
 use Rattle.blob_steps.proofs.world.World.turn.Goals as goal
 
 pub returns-in-Begin-clause-weight : goal.returns-in-Begin-clause-weight
@@ -17,6 +17,6 @@ pub returns-in_ok-put-in-Put-clause-weight : goal.returns-in_ok-put-in-Put-claus
 returns-in_ok-put-in-Put-clause-weight g c = omega (arith, change_count-turned empty_store _ _ (Put c.in-Put.key (content_bytes c.in-Put.content)) _ (c.in_ok-put-in-Put.ensures empty_store))
 
 pub returns-in_ok-put-in-Put-clause-turn : goal.returns-in_ok-put-in-Put-clause-turn
-returns-in_ok-put-in-Put-clause-turn g c = rw c.in-Put.is (λ tells base world is.
-    Stands-turn base (g.D.Disk.story c.args.disk.now).reads c.args.self.now _ (model_session c.put.new.self) world (Put c.in-Put.key (content_bytes c.in-Put.content)) (model_line c.in_ok-put-in-Put.field-0)
+returns-in_ok-put-in-Put-clause-turn g c = rw c.in-Put.is (λ world is.
+    CameTo-known g.D.Disk c.args.disk.now c.args.self.now _ (model_session c.put.new.self) world (Put c.in-Put.key (content_bytes c.in-Put.content)) (model_line c.in_ok-put-in-Put.field-0)
     is refl refl (c.in_ok-put-in-Put.ensures world.store))

@@ -1,8 +1,7 @@
 use Rattle.std.proofs.Common.{List, ◌∙◌, ap}
 use Rattle.disk_model.specs.declared.call.Call.{Call}
 use Rattle.disk_model.specs.Calls.{image_of, settled, replay_calls}
-use Rattle.disk_model.specs.Stories.{HasPages-image_of, HasPages-replay_calls}
-use Rattle.disk_model.proofs.Replays.{left-crash}
+use Rattle.disk_model.proofs.Replays.{HasPages-image_of, HasPages-replay_calls, left-crash}
 use Rattle.disk_model.proofs.memory.MemDisk.crash.Goals as goal
 
 pub returns-clause-left : goal.returns-clause-left

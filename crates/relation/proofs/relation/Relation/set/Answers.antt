@@ -1,12 +1,14 @@
-use Rattle.std.proofs.Common.{◌≡◌, ◌+◌, ◌-◌, ◌<◌, refl, ℕ, Bool, cond, List, None, Option, sym, ◌∙◌, ap, arith}
+use Rattle.std.proofs.Common.{◌≡◌, ◌+◌, ◌-◌, ◌<◌, refl, ℕ, Bool, cond, List, length, None, Option, sym, ◌∙◌, ap, arith}
 use Rattle.std.specs.Prelude.{is_some}
 use Rattle.std.specs.Vec.{vec_capacity, vec_len}
 use Rattle.std.specs.FinMap as map
 use Rattle.store_model.specs.State.{State}
+use Rattle.store_model.specs.Tuple.{spelling}
+use Rattle.store_model.proofs.EntryLaws.{sum-insert}
 use Rattle.relation.specs.Entries.{entries_of}
 use Rattle.relation.specs.Parts.{Parts, encoded_by}
 use Rattle.relation.proofs.Relations.{found-key, found-state, insert-put, missing-spare, missing-state, inserted-put, put-found, sorted-put}
-use Rattle.relation.proofs.Encoded.{bytes_of, encoded-at, encoded-grown, encoded-put_new, encoded-put_old, encoded-sorted, found-entry}
+use Rattle.relation.proofs.Encoded.{bytes_of, encoded-at, encoded-put, encoded-put_new, encoded-put_old, found-entry}
 use Rattle.relation.proofs.relation.Relation.set.Goals as goal
 
 pub unreachable-requires : goal.unreachable-requires
@@ -38,13 +40,14 @@ invariant_of-self c =
     let old = ap (λ (s : State). bytes_of (c.args.key, s)) c.deref-in-Ok.ensures in
     let least = encoded-at (entries_of kept) c.in-Ok.at _ here in
     let now = encoded-put_old (entries_of kept) _ c.in-Ok.at c.args.key c.args.state _ c.self.invariant.sorted here put in
+    let told = encoded-put (entries_of kept) _ c.args.key c.args.state c.args.self.now.states c.self.invariant.sorted put (ap (λ (p : Parts). p.states) c.self.view_is) in
     record {
       sorted = sorted-put (entries_of kept) _ c.args.key c.args.state c.self.invariant.sorted put;
       spare = c.self.invariant.spare;
       room = c.self.invariant.room;
       back = c.self.invariant.back;
       bytes = omega (arith, c.self.invariant.bytes, now, old, least, c.encoded.ensures.value, c.encoded-longer.ensures.value);
-      few = omega (arith, c.self.invariant.bytes, now, old, least, c.encoded.ensures.value, c.encoded-longer.ensures.value, c.encoded-longer.ensures.most, encoded-sorted (entries_of kept) c.self.invariant.sorted, ap (λ (p : Parts). encoded_by p.states) c.self.view_is, c.requires.bytes);
+      few = omega (arith, c.self.invariant.bytes, now, old, least, c.encoded.ensures.value, c.encoded-longer.ensures.value, told, c.requires.bytes);
     }
 
 pub returns-in-Ok-clause-states : goal.returns-in-Ok-clause-states
@@ -71,13 +74,14 @@ invariant_of-self-in-Err c =
     let longer = c.insert.ensures.len ∙ ap (λ (b : Bool). cond b (vec_len c.self.inside.entries + 1) (vec_len c.self.inside.entries)) ok in
     let put = inserted-put _ kept c.deref.result.now c.insert.new.self.items c.in-Err.at c.args.key c.args.state c.insert.result c.insert.ensures.items ok c.deref.ensures.value found.1 found.2 refl in
     let now = encoded-put_new kept c.deref.result.now _ c.in-Err.at c.args.key c.args.state c.deref.ensures.value found.1 found.2 put in
+    let told = encoded-put (entries_of kept) _ c.args.key c.args.state c.args.self.now.states c.self.invariant.sorted put (ap (λ (p : Parts). p.states) c.self.view_is) in
     record {
       sorted = sorted-put (entries_of kept) _ c.args.key c.args.state c.self.invariant.sorted put;
       spare = omega (arith, c.self.invariant.spare, c.in-Some.ensures.len);
       room = omega (arith, c.self.invariant.room, c.in-Some.ensures.len, longer, c.insert.ensures.capacity);
       back = omega (arith, c.self.invariant.back, c.in-Some.ensures.len, longer, c.in-Some.ensures.capacity);
       bytes = omega (arith, c.self.invariant.bytes, now, c.encoded-longer.ensures.value);
-      few = omega (arith, c.self.invariant.bytes, now, c.encoded-longer.ensures.value, c.encoded-longer.ensures.most, encoded-sorted (entries_of kept) c.self.invariant.sorted, ap (λ (p : Parts). encoded_by p.states) c.self.view_is, c.requires.bytes);
+      few = omega (arith, c.self.invariant.bytes, now, c.encoded-longer.ensures.value, told, c.requires.bytes);
     }
 
 pub returns-in-Some-clause-states : goal.returns-in-Some-clause-states
@@ -99,19 +103,20 @@ returns-in-Some-clause-spare c =
 
 pub returns-in-Ok-clause-bytes : goal.returns-in-Ok-clause-bytes
 returns-in-Ok-clause-bytes c =
-    let kept = c.self.inside.entries.items in
-    let key = found-key kept c.deref.result.now c.in-Ok.at c.args.key c.index_mut.result.now c.index_mut.result.now c.deref.ensures.value c.in-Ok.ensures.found c.index_mut.ensures.value in
-    let here = found-entry kept c.deref.result.now c.in-Ok.at c.args.key c.index_mut.result.now c.index_mut.result.now c.deref.ensures.value c.in-Ok.ensures.found c.index_mut.ensures.value in
-    let put = put-found kept c.deref.result.now c.in-Ok.at c.args.key _ c.args.state c.deref.ensures.value c.self.invariant.sorted c.in-Ok.ensures.found (ap (λ (k : List ℕ). (k, c.args.state)) key) in
-    let now = encoded-put_old (entries_of kept) _ c.in-Ok.at c.args.key c.args.state _ c.self.invariant.sorted here put in
-    encoded-grown (entries_of kept) _ c.args.key c.args.state _ 4717 c.self.invariant.sorted put (ap (λ (p : Parts). p.states) c.self.view_is) (omega (arith, now, c.encoded-longer.ensures.value, c.encoded-longer.ensures.most))
+    omega (
+      arith,
+      ap encoded_by (returns-in-Ok-clause-states c),
+      sum-insert (λ (key : List ℕ) (state : State). length (spelling key state)) c.args.self.now.states c.args.key c.args.state,
+      c.encoded-longer.ensures.value,
+      c.encoded-longer.ensures.most,
+    )
 
 pub returns-in-Some-clause-bytes : goal.returns-in-Some-clause-bytes
 returns-in-Some-clause-bytes c =
-    let kept = c.self.inside.entries.items in
-    let found = c.in-Err.ensures.found in
-    let room : vec_len c.self.inside.entries < vec_capacity c.self.inside.entries = omega (arith, c.self.invariant.room, c.in-Some.ensures.len) in
-    let ok = c.insert.ensures.succeeds room in
-    let put = inserted-put _ kept c.deref.result.now c.insert.new.self.items c.in-Err.at c.args.key c.args.state c.insert.result c.insert.ensures.items ok c.deref.ensures.value found.1 found.2 refl in
-    let now = encoded-put_new kept c.deref.result.now _ c.in-Err.at c.args.key c.args.state c.deref.ensures.value found.1 found.2 put in
-    encoded-grown (entries_of kept) _ c.args.key c.args.state _ 4717 c.self.invariant.sorted put (ap (λ (p : Parts). p.states) c.self.view_is) (omega (arith, now, c.encoded-longer.ensures.value, c.encoded-longer.ensures.most))
+    omega (
+      arith,
+      ap encoded_by (returns-in-Some-clause-states c),
+      sum-insert (λ (key : List ℕ) (state : State). length (spelling key state)) c.args.self.now.states c.args.key c.args.state,
+      c.encoded-longer.ensures.value,
+      c.encoded-longer.ensures.most,
+    )

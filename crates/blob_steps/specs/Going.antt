@@ -1,0 +1,109 @@
+-- A run on the way, in the words of the definitions.
+use Rattle.std.specs.Prelude.{◌≡◌, ℕ, ⊤, Bool, false, IsTrue, List, ◌∷◌, ◌++◌, Option, Some, None}
+use Rattle.std.specs.Io.KnownBytes.{Appends}
+use Rattle.blob_base.specs.Faults.{Rose}
+use Rattle.blob_base.specs.declared.faults.IoFault.TheVariants.{Failed, OutOfMemory}
+use Rattle.disk_model.specs.declared.disk.Disk.{Ghosts}
+use Rattle.blob_steps.specs.declared.fault.StepFault.{StepFault}
+use Rattle.blob_steps.specs.declared.fault.StepFault.TheVariants as fault
+use Rattle.blob_steps.specs.declared.line.LineFault.{LineFault}
+use Rattle.blob_steps.specs.declared.line.LineFault.TheVariants as line
+use Rattle.blob_steps.specs.declared.status.Status.{Status}
+use Rattle.blob_steps.specs.declared.status.Status.TheVariants as status
+use Rattle.blob_steps.specs.declared.world.World.{World}
+use Rattle.blob_steps.specs.Lines.{LineTaken}
+use Rattle.blob_steps.specs.Runs.{PagesAre}
+use Rattle.blob_steps.specs.Steps.{WorldStands}
+use Rattle.store_model.specs.Cost.{Spent}
+use Rattle.store_model.specs.Group as model
+use Rattle.store_model.specs.Layout.{Layout}
+use Rattle.store_model.specs.Play.{Played, PlayedLine, play, play_steps, store_behind, text_of}
+use Rattle.store_model.specs.Script.{Step, lines_of, step_at, steps_from}
+use Rattle.store_model.specs.Store.{Store}
+
+-- the first line that is left asks for this step
+pub record TakesStep (number : ℕ) (old new : Option (List ℕ)) (step : Step) : Type 0 where
+  pub line : List ℕ
+  pub taken : LineTaken old line new
+  pub asks : step_at number line ≡ Some step
+
+-- the first line that is left is none of those that are built
+abbrev pub BadLine : ℕ → Option (List ℕ) → Type 0
+BadLine number None = ⊤
+BadLine number (Some script) = (line : List ℕ) × (rest : List (List ℕ)) × (lines_of script ≡ line ∷ rest) × (step_at number line ≡ None)
+
+-- some line is left
+abbrev pub SomeLine : Option (List ℕ) → Type 0
+SomeLine None = ⊤
+SomeLine (Some script) = (line : List ℕ) × (rest : List (List ℕ)) × (lines_of script ≡ line ∷ rest)
+
+-- the play of lines from this number on, from this world on
+abbrev pub playing : Layout → ℕ → model.World → List (List ℕ) → Played
+playing layout number world lines = record { lines = play_steps layout world (steps_from number lines).steps; end = (steps_from number lines).end }
+
+-- some lines, and then a play
+abbrev pub after_lines : List PlayedLine → Played → Played
+after_lines lines played = record { lines = lines ++ played.lines; end = played.end }
+
+-- What is left of a known script plays on, behind these lines, to the play of the whole.
+abbrev pub PlaysOn : Layout → Store → List PlayedLine → ℕ → model.World → Option (List ℕ) → Option (List ℕ) → Type 0
+PlaysOn layout start lines number world first left =
+    (script : List ℕ) → first ≡ Some script
+    → (rest : List ℕ) × (left ≡ Some rest) × (after_lines lines (playing layout number world (lines_of rest)) ≡ play layout start script)
+
+-- A run on the way: it has run some lines and is at the world behind them, the sink took what they print, the disk has what
+-- they made of it, and what is left of the script plays on to the whole.
+pub record Going {D : Type 0} (g : Ghosts D) (start : Store) (mine : World) (number : ℕ) (first left old new : Option (List ℕ)) (was now : D) : Type 0 where
+  pub world : model.World
+  pub stands : WorldStands mine world
+  pub lines : List PlayedLine
+  pub store_is : world.store ≡ store_behind start lines
+  pub took : IsTrue g.tells → Appends old new (text_of lines)
+  pub pages : IsTrue g.tells → PagesAre g mine.store.layout start lines was now
+  pub counts : IsTrue g.tells → Spent lines (g.calls was) (g.calls now)
+  pub plays_on : PlaysOn mine.store.layout start lines number world first left
+
+-- what ends the reading of a line, other than well
+abbrev pub EndsReading : Status → ℕ → Option (List ℕ) → ℕ → ℕ → Type 0
+EndsReading (status.NotBuilt line) number left before now = (line ≡ number) × BadLine number left
+EndsReading status.ReadFault number left before now = Rose before now
+EndsReading status.OutOfMemory number left before now = ⊤
+EndsReading _ number left before now = ⊥
+
+-- what ends a step, other than well
+abbrev pub EndsStep : Status → ℕ → ℕ → Type 0
+EndsStep status.DiskFault before now = Rose before now
+EndsStep status.OutOfMemory before now = ⊤
+EndsStep (status.Damaged key link want got) before now = ⊤
+EndsStep _ before now = ⊥
+
+-- what ends the printing of an answer, other than well
+abbrev pub EndsPrinting : Status → Bool → ℕ → ℕ → Type 0
+EndsPrinting status.WriteFault frugal before now = Rose before now
+EndsPrinting status.OutOfMemory frugal before now = frugal ≡ false
+EndsPrinting _ frugal before now = ⊥
+
+-- what a step without an answer ends a run with
+abbrev pub step_ending : StepFault → Status
+step_ending fault.Failed = status.DiskFault
+step_ending fault.OutOfMemory = status.OutOfMemory
+step_ending (fault.Damaged key link want got) = status.Damaged key link want got
+
+-- what a fault in reading a line ends a run with
+abbrev pub reading_ending : LineFault → Status
+reading_ending (line.Source Failed) = status.ReadFault
+reading_ending (line.Source OutOfMemory) = status.OutOfMemory
+reading_ending line.OutOfMemory = status.OutOfMemory
+
+-- a status with which a script's run ends before its end
+abbrev pub IsRunning : Status → Type 0
+IsRunning status.Done = ⊥
+IsRunning (status.Refused why) = ⊥
+IsRunning status.Usage = ⊥
+IsRunning _ = ⊤
+
+-- a status with which a script's run ends
+abbrev pub IsAccepted : Status → Type 0
+IsAccepted (status.Refused why) = ⊥
+IsAccepted status.Usage = ⊥
+IsAccepted _ = ⊤

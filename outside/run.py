@@ -1,0 +1,168 @@
+"""Compares the program with the model over random cases.
+
+    python3 outside/run.py PROGRAM N [SEED]
+    python3 outside/run.py PROGRAM N --random
+
+Runs the N cases of the seeds SEED, SEED + 1, and so on.
+"""
+
+import os
+import secrets
+import shutil
+import subprocess
+import sys
+import tempfile
+from pathlib import Path
+
+sys.dont_write_bytecode = True  # nothing is left beside this file
+
+import cases
+import model
+
+FIRST_SEED = 1_000_000
+LONGEST_RUN = 300  # seconds
+CHUNK_PAGES = 256
+ZEROS = bytes(model.PAGE)
+
+
+def first_difference(found: bytes, wanted: bytes) -> str:
+    """Where two texts part, with a piece of the line of each."""
+    shorter = min(len(found), len(wanted))
+    at = next((i for i in range(shorter) if found[i] != wanted[i]), shorter)
+    line = wanted.count(b"\n", 0, at) + 1
+    start = max(wanted.rfind(b"\n", 0, at) + 1, at - 60)
+    pieces = [text[start : start + 160].split(b"\n")[0] or b"(nothing)" for text in (found, wanted)]
+    return f"line {line}, byte {at}\n    found:  {pieces[0]!r}\n    wanted: {pieces[1]!r}"
+
+
+def written_chunks(file, length: int) -> set:
+    """The chunks of a file that aren't holes. A hole reads as zeros."""
+    width = CHUNK_PAGES * model.PAGE
+    found = set()
+    at = 0
+    while at < length:
+        try:
+            at = os.lseek(file, at, os.SEEK_DATA)
+        except OSError:
+            break  # there is no data from here on
+        end = os.lseek(file, at, os.SEEK_HOLE)
+        found.update(range(at // width, (end - 1) // width + 1))
+        at = end
+    return found
+
+
+def file_difference(path: Path, length: int, pages: dict) -> str:
+    """The first byte of the file that isn't the wanted one, or nothing. All pages that aren't
+    named must be zeros."""
+    if not path.is_file():
+        return "there is none"
+    if path.stat().st_size != length:
+        return f"length\n    found:  {path.stat().st_size}\n    wanted: {length}"
+    file = os.open(path, os.O_RDONLY)
+    try:
+        chunks = written_chunks(file, length) | {page // CHUNK_PAGES for page in pages}
+        for chunk in sorted(chunks):
+            numbers = range(chunk * CHUNK_PAGES, min((chunk + 1) * CHUNK_PAGES, length // model.PAGE))
+            wanted = b"".join(pages.get(page, ZEROS) for page in numbers)
+            found = os.pread(file, len(wanted), numbers[0] * model.PAGE)
+            if found != wanted:
+                at = next(i for i, (a, b) in enumerate(zip(found, wanted)) if a != b)
+                page, byte = numbers[0] + at // model.PAGE, at % model.PAGE
+                pieces = [text[at : at + 16].hex() for text in (found, wanted)]
+                return f"page {page}, byte {byte}\n    found:  {pieces[0]}\n    wanted: {pieces[1]}"
+    finally:
+        os.close(file)
+    return ""
+
+
+def run_program(program: str, case: cases.Case, folder: Path):
+    """One run of the program in an empty folder. None where it doesn't end in time."""
+    script = folder.parent / "script"
+    script.write_bytes(case.script)
+    with open(script, "rb") as source:
+        given = {"input": case.script} if case.piped else {"stdin": source}
+        given |= {"cwd": folder, "capture_output": True, "timeout": LONGEST_RUN}
+        try:
+            return subprocess.run([program.encode(), *case.words], **given)
+        except subprocess.TimeoutExpired:
+            return None
+
+
+def differences(program: str, case: cases.Case, folder: Path) -> list:
+    """Runs a case and gives what differs from the model, each with its first difference."""
+    file = folder / os.fsdecode(case.words[1]) if len(case.words) > 1 else None
+    if case.before is not None:
+        file.write_bytes(case.before)
+    wanted = model.run(case.words, case.script, case.opens)
+    done = run_program(program, case, folder)
+    if done is None:
+        return [f"it doesn't end in {LONGEST_RUN} seconds"]
+    found = []
+    if done.returncode != wanted.status:
+        found.append(f"exit status\n    found:  {done.returncode}\n    wanted: {wanted.status}")
+    if done.stdout != wanted.text:
+        found.append("standard output, " + first_difference(done.stdout, wanted.text))
+    if wanted.errors is not None and done.stderr != wanted.errors:
+        found.append("standard error, " + first_difference(done.stderr, wanted.errors))
+    if wanted.length is not None:
+        difference = file_difference(file, wanted.length, wanted.pages)
+    else:
+        difference = untouched_difference(folder, file, case.before)
+    return found + (["file, " + difference] if difference else [])
+
+
+def untouched_difference(folder: Path, file: Path, before) -> str:
+    """What a run that leaves the file alone changed in its folder, or nothing."""
+    names = sorted(os.listdir(folder))
+    wanted = [] if before is None else [file.name]
+    if names != wanted:
+        return f"the folder of a refused run\n    found:  {names}\n    wanted: {wanted}"
+    return "changed by a refused run" if before is not None and file.read_bytes() != before else ""
+
+
+def report(seed: int, case: cases.Case, found: list, kept: Path) -> None:
+    """Prints a failed case, and keeps its script."""
+    script = kept / f"{seed}.script"
+    script.write_bytes(case.script)
+    words = " ".join(repr(os.fsdecode(word)) for word in case.words)
+    print(f"seed {seed} ({case.kind}) differs\n  words: {words}\n  script: {script}")
+    for difference in found:
+        print(f"  {difference}")
+
+
+def read_arguments(arguments: list):
+    """The program, the number of cases and the first seed, or None where they are faulty."""
+    at_random = "--random" in arguments
+    plain = [one for one in arguments if one != "--random"]
+    if len(plain) not in ((2,) if at_random else (2, 3)) or not all(one.isdecimal() for one in plain[1:]):
+        return None
+    seed = secrets.randbelow(10**9) if at_random else int(plain[2]) if len(plain) == 3 else FIRST_SEED
+    return os.path.abspath(plain[0]), int(plain[1]), seed
+
+
+def main(arguments: list) -> int:
+    read = read_arguments(arguments)
+    if read is None or not os.access(read[0], os.X_OK):
+        print("python3 run.py PROGRAM N [SEED | --random]", file=sys.stderr)
+        return 2
+    program, count, first = read
+    print(f"{count} cases from seed {first}")
+    failed = 0
+    kept = None
+    with tempfile.TemporaryDirectory(prefix="outside-") as made:
+        folder = Path(made) / "run"
+        for seed in range(first, first + count):
+            folder.mkdir()
+            case = cases.make(seed)
+            found = differences(program, case, folder)
+            if found:
+                failed += 1
+                kept = kept or Path(tempfile.mkdtemp(prefix="outside-failed-"))
+                report(seed, case, found, kept)
+            shutil.rmtree(folder)
+    print(f"{count - failed} passed, {failed} failed")
+    return 1 if failed else 0
+
+
+if __name__ == "__main__":
+    sys.exit(main(sys.argv[1:]))
