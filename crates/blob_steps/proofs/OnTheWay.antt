@@ -189,6 +189,7 @@ module _ {D : Type 0} (g : Ghosts D) (start : Store) (mine later : World) (numbe
         stands = came.stands;
         lines = lines_with;
         store_is = sym (store_behind-push start going.lines line);
+        grew = (going.grew.0 ++ text, Appends-trans old taken more going.grew.0 text going.grew.1 took);
         took = λ told. subst (Appends old more) (sym (text_of-push going.lines line))
             (Appends-trans old taken more (text_of going.lines) line.text (going.took told) (subst (Appends taken more) (text-now told) took));
         pages = λ told. PagesAre-next g later.store.layout start going.lines going.world.store.objects line was now newer told
@@ -224,6 +225,7 @@ module _ {D : Type 0} (g : Ghosts D) (start : Store) (mine later : World) (numbe
   Ended-printing status.WriteFault more gone frugal before since took ends = record {
     lines = lines_with;
     ran = lines-front mine.store.layout (sym same);
+    grew = (going.grew.0 ++ take gone text, Appends-trans old taken more going.grew.0 (take gone text) going.grew.1 took);
     took = λ told. inr (tt, TookFront-cut more gone told took);
     pages = λ told. tt;
     counts = λ told. tt;
@@ -233,6 +235,7 @@ module _ {D : Type 0} (g : Ghosts D) (start : Store) (mine later : World) (numbe
   Ended-printing status.OutOfMemory more gone frugal before since took ends = record {
     lines = lines_with;
     ran = lines-front mine.store.layout (sym same);
+    grew = (going.grew.0 ++ take gone text, Appends-trans old taken more going.grew.0 (take gone text) going.grew.1 took);
     took = λ told. inr (ends, TookFront-cut more gone told took);
     pages = λ told. tt;
     counts = λ told. tt;
@@ -261,6 +264,7 @@ module _ {D : Type 0} (g : Ghosts D) (start : Store) (mine : World) (number : �
         let empty : lines_of on.0 ≡ [] = subst NoLine on.1 none in
         PlaysOn-all mine.store.layout start going.lines number going.world first left script going.plays_on known (record { lines = []; end = AtInputEnd })
         (ap (playing mine.store.layout number going.world) empty) refl;
+    grew = going.grew;
     took = λ told. inl (going.took told);
     pages = going.pages;
     counts = going.counts;
@@ -276,6 +280,7 @@ module _ {D : Type 0} (g : Ghosts D) (start : Store) (mine : World) (number : �
         let line : BadLine number (Some on.0) = subst (BadLine number) on.1 bad in
         PlaysOn-all mine.store.layout start going.lines number going.world first left script going.plays_on known (record { lines = []; end = AtLine number })
         (ap (playing mine.store.layout number going.world) line.2 ∙ playing-bad mine.store.layout number going.world line.0 line.1 line.3) refl;
+    grew = going.grew;
     took = λ told. inl (going.took told);
     pages = going.pages;
     counts = going.counts;
@@ -290,6 +295,7 @@ module _ {D : Type 0} (g : Ghosts D) (start : Store) (mine : World) (number : �
   Ended-reading status.ReadFault frugal before since ends = record {
     lines = going.lines;
     ran = lines-before;
+    grew = going.grew;
     took = λ told. inl (going.took told);
     pages = λ told. tt;
     counts = λ told. tt;
@@ -299,6 +305,7 @@ module _ {D : Type 0} (g : Ghosts D) (start : Store) (mine : World) (number : �
   Ended-reading status.OutOfMemory frugal before since ends = record {
     lines = going.lines;
     ran = lines-before;
+    grew = going.grew;
     took = λ told. inl (going.took told);
     pages = λ told. tt;
     counts = λ told. tt;
@@ -318,6 +325,7 @@ module _ {D : Type 0} (g : Ghosts D) (start : Store) (mine : World) (number : �
   Ended-step status.DiskFault newer frugal before since ends shows undamaged = record {
     lines = going.lines;
     ran = lines-before;
+    grew = going.grew;
     took = λ told. inl (going.took told);
     pages = λ told. tt;
     counts = λ told. tt;
@@ -327,6 +335,7 @@ module _ {D : Type 0} (g : Ghosts D) (start : Store) (mine : World) (number : �
   Ended-step status.OutOfMemory newer frugal before since ends shows undamaged = record {
     lines = going.lines;
     ran = lines-before;
+    grew = going.grew;
     took = λ told. inl (going.took told);
     pages = λ told. tt;
     counts = λ told. tt;
@@ -336,6 +345,7 @@ module _ {D : Type 0} (g : Ghosts D) (start : Store) (mine : World) (number : �
   Ended-step (status.Damaged key link want got) newer frugal before since ends shows undamaged = record {
     lines = going.lines;
     ran = lines-before;
+    grew = going.grew;
     took = λ told. inl (going.took told);
     pages = λ told. tt;
     counts = λ told. tt;
@@ -366,6 +376,7 @@ Going-first g mine first taken disk stands = record {
   stands = stands;
   lines = [];
   store_is = refl;
+  grew = ([], Appends-nil taken);
   took = λ told. Appends-nil taken;
   pages = λ told. record { objects = no-objects (g.story disk).reads mine.store.layout; others = wrote_none (IsOwnedPage mine.store.layout []) (g.story disk) };
   counts = λ told. record { writes = omega arith; syncs = omega arith };
@@ -429,6 +440,7 @@ pub Ended-unbegun : {D : Type 0} (g : Ghosts D) (layout : Layout) (start : Store
 Ended-unbegun g layout start frugal script taken disk = record {
   lines = [];
   ran = λ text known. ((play layout start text).lines, refl);
+  grew = ([], Appends-nil taken);
   took = λ told. inl (Appends-nil taken);
   pages = λ told. tt;
   counts = λ told. tt;

@@ -9,7 +9,7 @@ use Rattle.store_model.specs.Shape.{greatest_size}
 use Rattle.store_model.specs.Key.{key_order}
 use Rattle.disk_model.specs.Disks.{OnlyReads}
 use Rattle.disk_model.specs.declared.disk.Disk.{Ghosts}
-use Rattle.disk_model.proofs.DiskLaws.{OnlyReads-none}
+use Rattle.disk_model.proofs.DiskLaws.{Keeps-none, OnlyReads-none}
 use Rattle.store_model.specs.Cost.{Reads}
 use Rattle.store_model.specs.Judgement.{object_bytes, stored_bytes}
 use Rattle.store_model.specs.Layout.{Layout}
@@ -22,12 +22,12 @@ use Rattle.store_model.specs.Answer.{AnswerLine, answer_text, idle_text}
 use Rattle.store_model.specs.Group.{Outcome, World, lead, lead_queue, lead_request, transaction_of, world_over}
 use Rattle.store_model.specs.Play.{queue_after, step_play}
 use Rattle.store_model.specs.Script.{Session as ModelSession}
-use Rattle.blob_steps.specs.Answers.{model_line, text_of}
+use Rattle.blob_steps.specs.Answers.{model_line, line_of_answer}
 use Rattle.blob_steps.specs.declared.answer.AnswerLine.{AnswerLine as MineLine}
 use Rattle.blob_steps.specs.declared.fault.StepFault.{StepFault}
 use Rattle.blob_steps.specs.Sessions.{change_count, model_session}
-use Rattle.blob_steps.specs.Steps.{CameTo, WorldStands, queue_of}
-use Rattle.blob_steps.specs.Stores.{Replied, StoreStands}
+use Rattle.blob_steps.specs.Steps.{CameTo, Stepped, WorldStands, queue_of, weight}
+use Rattle.blob_steps.specs.Stores.{IsSound, Replied, StoreStands}
 use Rattle.blob_steps.proofs.Doing.{Did-none, Did-reads}
 use Rattle.blob_steps.specs.declared.answer.Answer.{Answer}
 use Rattle.blob_steps.specs.declared.session.Session.{Session as MineSession}
@@ -168,18 +168,18 @@ lead-waiting layout world session transaction waits is queue =
 
 -- the world after it
 pub CameTo-waiting : {D : Type 0} (g : Ghosts D) (old now : D) (mine new : Mine) (world : World) (transaction : Transaction) (line : AnswerLine) (answer : Answer)
-    → WorldStands mine world → model_session mine.session ≡ Waiting transaction → model_session new.session ≡ Free → text_of answer ≡ answer_text 0 line
+    → WorldStands mine world → model_session mine.session ≡ Waiting transaction → model_session new.session ≡ Free → line_of_answer answer ≡ answer_text 0 line
     → Replied g old now new.store world.store transaction line
-    → CameTo g world (lead new.store.layout world) (text_of answer) new old now
+    → CameTo g world (lead new.store.layout world) (line_of_answer answer) new old now
 CameTo-waiting g old now mine new world transaction line answer is waits free text replied =
     let layout : Layout = new.store.layout in
     let led : lead layout world ≡ lead_request layout world 0 transaction [] = lead-waiting layout world (model_session mine.session) transaction waits is.session_is is.queue_is in
-    let done : CameTo g world (lead_request layout world 0 transaction []) (text_of answer) new old now = record {
+    let done : CameTo g world (lead_request layout world 0 transaction []) (line_of_answer answer) new old now = record {
       stands = record { store = replied.stands; session_is = free; queue_is = ap queue_of (sym free) };
       did = replied.did;
       text_is = λ told stand. text ∙ ap (answer_text 0) replied.line_is;
     } in
-    subst (λ (outcome : Outcome). CameTo g world outcome (text_of answer) new old now) (sym led) done
+    subst (λ (outcome : Outcome). CameTo g world outcome (line_of_answer answer) new old now) (sym led) done
 
 -- a session that doesn't wait is in no queue
 pub nobody_waits : (one : MineSession) → ((transaction : Transaction) → one ≡ session.Waiting transaction → ⊥) → queue_of (model_session one) ≡ []
@@ -188,13 +188,13 @@ nobody_waits (session.Open transaction) not = refl
 nobody_waits (session.Waiting transaction) not = absurd (not transaction refl)
 
 -- the world after a lead that found nobody waiting
-pub CameTo-idle : {D : Type 0} (g : Ghosts D) (disk : D) (mine new : Mine) (world : World) (answer : Answer) → WorldStands mine world → queue_of (model_session mine.session) ≡ [] → text_of answer ≡ idle_text
+pub CameTo-idle : {D : Type 0} (g : Ghosts D) (disk : D) (mine new : Mine) (world : World) (answer : Answer) → WorldStands mine world → queue_of (model_session mine.session) ≡ [] → line_of_answer answer ≡ idle_text
     → new.store ≡ mine.store → model_session new.session ≡ model_session mine.session
-    → CameTo g world (lead new.store.layout world) (text_of answer) new disk disk
+    → CameTo g world (lead new.store.layout world) (line_of_answer answer) new disk disk
 CameTo-idle g disk mine new world answer is none text same session =
     let idle : Outcome = record { text = idle_text; commits = []; world = world } in
     let led : lead new.store.layout world ≡ idle = ap (lead_queue new.store.layout world) (is.queue_is ∙ none) in
-    let done : CameTo g world idle (text_of answer) new disk disk = record {
+    let done : CameTo g world idle (line_of_answer answer) new disk disk = record {
       stands = record {
         store = subst (λ s. StoreStands s world.store) (sym same) is.store;
         session_is = session ∙ is.session_is;
@@ -203,7 +203,7 @@ CameTo-idle g disk mine new world answer is none text same session =
       did = Did-none g new.store.layout world.store.objects disk;
       text_is = λ told stand. text;
     } in
-    subst (λ (outcome : Outcome). CameTo g world outcome (text_of answer) new disk disk) (sym led) done
+    subst (λ (outcome : Outcome). CameTo g world outcome (line_of_answer answer) new disk disk) (sym led) done
 
 -- no state stands for no object
 no_objects : (state : Option State) (object : Option Object) → state ≡ None → object ≡ None → BothStand state object
@@ -226,4 +226,17 @@ WorldStands-new store none last = record {
   store = record { objects = SameObjects-empty store.relation.states none; last = last; room = omega (arith, sum-none) };
   session_is = refl;
   queue_is = refl;
+}
+
+-- a step that is answered without a look at the disk
+pub Stepped-answered : {D T : Type 0} (g : Ghosts D) (disk : D) (mine later : Mine) (answer : T) → IsSound mine.store → later.store ≡ mine.store
+    → weight later ≤ weight mine + 1 → Stepped g disk disk mine later (Ok answer)
+Stepped-answered g disk mine later answer sound same grown = record {
+  sound = subst IsSound (sym same) sound;
+  grown = grown;
+  layout = ap (λ (s : MineStore). s.layout) same;
+  keeps = Keeps-none g disk;
+  raised = tt;
+  damage = λ world is. tt;
+  whole = λ told world is stand. tt;
 }

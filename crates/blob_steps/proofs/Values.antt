@@ -16,7 +16,7 @@ use Rattle.store_model.specs.Turn.{shown}
 use Rattle.store_model.proofs.HoldsLaws.{Holds-there, Verifies-whole}
 use Rattle.store_model.proofs.VerifyLaws.{Verifies-Holds}
 use Rattle.blob_steps.specs.Answers.{model_line}
-use Rattle.blob_steps.specs.Faults.{DamageOf, FailsOn, IsUndamagedFault, ShowsDamage}
+use Rattle.blob_steps.specs.Faults.{DamageOf, FailsOn, IsUndamagedFault, ShowsDamageFault}
 use Rattle.blob_steps.specs.declared.answer.AnswerLine.{AnswerLine}
 use Rattle.blob_steps.specs.declared.fault.StepFault.{StepFault}
 use Rattle.blob_steps.specs.declared.fault.StepFault.TheVariants as fault
@@ -71,7 +71,7 @@ module _ (states : FinMap key_order State) (objects : FinMap key_order Object) (
   shown-of content (Err e) is shows = tt
 
   -- damage of the state is damage of the key's object
-  pub damage-of : (result : Result AnswerLine StepFault) → IfErr result (DamageOf key state) → IfErr result (ShowsDamage objects)
+  pub damage-of : (result : Result AnswerLine StepFault) → IfErr result (DamageOf key state) → IfErr result (ShowsDamageFault objects)
   damage-of (Ok line) is = tt
   damage-of (Err fault.Failed) is = tt
   damage-of (Err fault.OutOfMemory) is = tt

@@ -14,7 +14,7 @@ use Rattle.io_ends.specs.declared.traits.Sink as sink_trait
 use Rattle.blob_steps.specs.declared.status.Status.{Status}
 use Rattle.blob_steps.specs.declared.status.Status.TheVariants as status
 use Rattle.blob_steps.specs.Going.{IsAccepted}
-use Rattle.blob_steps.specs.Runs.{Closed, Counts, Ended, EndedBy, IsRaised, IsTooSmall, IsTurnedAway, IsUndamaged, KeepsEnds, OnPlayed, PagesAre, Ran, Run, ShowsDamage, TookLines, counts_of, layout_of}
+use Rattle.blob_steps.specs.Runs.{Closed, Counts, Ended, EndedBy, Grew, IsRaised, IsTooSmall, IsTurnedAway, IsUndamaged, KeepsEnds, OnPlayed, PagesAre, Ran, Run, ShowsDamage, TookLines, counts_of, layout_of}
 use Rattle.store_model.specs.Cost.{Spent}
 use Rattle.store_model.specs.Form.{Form, IsForm, IsNoForm}
 use Rattle.store_model.specs.Layout.{Layout, total_pages}
@@ -51,6 +51,7 @@ refused_words words size form layout how why same is refused accepted = (
 record RunLines {D : Type 0} (g : disk_trait.Ghosts D) (words : List (List ℕ)) (frugal : Bool) (left old new : Option (List ℕ)) (was now : D) (how : Status) : Type 0 where
   lines : List PlayedLine
   script : (form : Form) → IsForm words form → (script : List ℕ) → left ≡ Some script → Ran how lines (play (layout_of form) empty_store script)
+  grew : Grew old new
   text : IsTrue g.tells → TookLines how frugal old new lines
   pages : (form : Form) → IsForm words form → IsTrue g.tells → OnPlayed how (PagesAre g (layout_of form) empty_store lines was now)
   counts : IsTrue g.tells → OnPlayed how (Spent lines (g.calls was) (g.calls now))
@@ -68,6 +69,7 @@ lines_none g words frugal left old new was now status.DiskFault away same = absu
 lines_none g words frugal left old new was now (status.Refused why) away same = record {
   lines = [];
   script = λ form is script known. ((play (layout_of form) empty_store script).lines, refl);
+  grew = ([], subst (λ n. Appends old n []) (sym same) (Appends-nil old));
   text = λ told. inl (subst (λ n. Appends old n []) (sym same) (Appends-nil old));
   pages = λ form is told. tt;
   counts = λ told. tt;
@@ -78,6 +80,7 @@ lines_none g words frugal left old new was now status.OutOfMemory away same = ab
 lines_none g words frugal left old new was now status.Usage away same = record {
   lines = [];
   script = λ form is script known. ((play (layout_of form) empty_store script).lines, refl);
+  grew = ([], subst (λ n. Appends old n []) (sym same) (Appends-nil old));
   text = λ told. inl (subst (λ n. Appends old n []) (sym same) (Appends-nil old));
   pages = λ form is told. tt;
   counts = λ told. tt;
@@ -98,6 +101,7 @@ lines_by g words frugal left old new was now how alone (inr run) =
       lines = ended.lines;
       script = λ other is script known.
           subst (λ (l : Layout). Ran how ended.lines (play l empty_store script)) (same_form words form other run.1 is) (ended.ran script known);
+      grew = ended.grew;
       text = ended.took;
       pages = λ other is told.
           subst (λ (l : Layout). OnPlayed how (PagesAre g l empty_store ended.lines was now)) (same_form words form other run.1 is) (ended.pages told);
@@ -142,6 +146,7 @@ whole_run source sink disk words source_old sink_old disk_old how source_new sin
       refused = refused;
       lines = came.lines;
       printed = printed;
+      grew = came.grew;
       alone = λ away. ((alone away).0, (alone away).2, unprinted away);
       script = came.script;
       text = came.text;

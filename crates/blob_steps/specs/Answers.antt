@@ -24,6 +24,6 @@ model_line (line.NoSpace key tier) = model.NoSpace key tier
 model_line (line.NoRoom need have) = model.NoRoom need have
 
 -- an answer as a line with its end
-abbrev pub text_of : Answer → List ℕ
-text_of (answer.Session session line) = model.answer_text session (model_line line)
-text_of answer.Idle = model.idle_text
+abbrev pub line_of_answer : Answer → List ℕ
+line_of_answer (answer.Session session line) = model.answer_text session (model_line line)
+line_of_answer answer.Idle = model.idle_text

@@ -19,16 +19,16 @@ step_fault io.Failed = fault.Failed
 step_fault io.OutOfMemory = fault.OutOfMemory
 
 -- The disk failed only where the count of its faults rose.
-abbrev pub IsRaised : ℕ → ℕ → StepFault → Type 0
-IsRaised before now fault.Failed = Rose before now
-IsRaised before now fault.OutOfMemory = ⊤
-IsRaised before now (fault.Damaged key link want got) = ⊤
+abbrev pub IsRaisedFault : ℕ → ℕ → StepFault → Type 0
+IsRaisedFault before now fault.Failed = Rose before now
+IsRaisedFault before now fault.OutOfMemory = ⊤
+IsRaisedFault before now (fault.Damaged key link want got) = ⊤
 
 -- Damage is that of an object.
-abbrev pub ShowsDamage : FinMap key_order Object → StepFault → Type 0
-ShowsDamage objects fault.Failed = ⊤
-ShowsDamage objects fault.OutOfMemory = ⊤
-ShowsDamage objects (fault.Damaged key link want got) = IsDamaged objects key link want got
+abbrev pub ShowsDamageFault : FinMap key_order Object → StepFault → Type 0
+ShowsDamageFault objects fault.Failed = ⊤
+ShowsDamageFault objects fault.OutOfMemory = ⊤
+ShowsDamageFault objects (fault.Damaged key link want got) = IsDamaged objects key link want got
 
 -- Damage is that of this key and this state.
 abbrev pub DamageOf : List ℕ → State → StepFault → Type 0
@@ -41,6 +41,12 @@ abbrev pub FailsOn : Image → ℕ → State → StepFault → Type 0
 FailsOn image first state fault.Failed = ⊤
 FailsOn image first state fault.OutOfMemory = ⊤
 FailsOn image first state (fault.Damaged key link want got) = FailsFirst (computed image first state) state link want got
+
+-- Damage names this key.
+abbrev pub NamesKey : List ℕ → StepFault → Type 0
+NamesKey one fault.Failed = ⊤
+NamesKey one fault.OutOfMemory = ⊤
+NamesKey one (fault.Damaged key link want got) = key ≡ one
 
 -- a fault other than damage
 abbrev pub IsUndamagedFault : StepFault → Type 0

@@ -12,7 +12,7 @@ use Rattle.blob_steps.specs.declared.status.Status.{Status}
 use Rattle.blob_steps.specs.declared.status.Status.TheVariants as status
 use Rattle.blob_steps.specs.declared.world.World.{World}
 use Rattle.blob_steps.specs.Lines.{LineTaken}
-use Rattle.blob_steps.specs.Runs.{PagesAre}
+use Rattle.blob_steps.specs.Runs.{Grew, PagesAre}
 use Rattle.blob_steps.specs.Steps.{WorldStands}
 use Rattle.store_model.specs.Cost.{Spent}
 use Rattle.store_model.specs.Group as model
@@ -58,6 +58,7 @@ pub record Going {D : Type 0} (g : Ghosts D) (start : Store) (mine : World) (num
   pub stands : WorldStands mine world
   pub lines : List PlayedLine
   pub store_is : world.store ≡ store_behind start lines
+  pub grew : Grew old new
   pub took : IsTrue g.tells → Appends old new (text_of lines)
   pub pages : IsTrue g.tells → PagesAre g mine.store.layout start lines was now
   pub counts : IsTrue g.tells → Spent lines (g.calls was) (g.calls now)

@@ -87,6 +87,10 @@ pub record TookFront (old new : Option (List ℕ)) (whole : List ℕ) : Type 0 w
 abbrev pub TookLines : Status → Bool → Option (List ℕ) → Option (List ℕ) → List PlayedLine → Type 0
 TookLines status frugal old new lines = Appends old new (text_of lines) ⊎ (MayCut status frugal × TookFront old new (text_of lines))
 
+-- the sink took some text
+abbrev pub Grew : Option (List ℕ) → Option (List ℕ) → Type 0
+Grew old new = (text : List ℕ) × Appends old new text
+
 -- The closing line: the sink took a front of it, all of it unless the sink failed or a sink that isn't frugal found no
 -- memory.
 pub record Closed (status : Status) (frugal : Bool) (before now : ℕ) (old new : Option (List ℕ)) : Type 0 where
@@ -128,6 +132,7 @@ pub record Ended {D : Type 0} (g : disk_trait.Ghosts D) (layout : Layout) (start
     (status : Status) : Type 0 where
   pub lines : List PlayedLine
   pub ran : (text : List ℕ) → script ≡ Some text → Ran status lines (play layout start text)
+  pub grew : Grew old new
   pub took : IsTrue g.tells → TookLines status frugal old new lines
   pub pages : IsTrue g.tells → OnPlayed status (PagesAre g layout start lines was now)
   pub counts : IsTrue g.tells → OnPlayed status (Spent lines (g.calls was) (g.calls now))
@@ -147,6 +152,7 @@ pub record Run {S K D : Type 0} (source : source_trait.Ghosts S) (sink : sink_tr
   -- the lines of the script that were run, and what the sink tells to have taken before the closing line
   pub lines : List PlayedLine
   pub printed : Option (List ℕ)
+  pub grew : Grew (sink.taken sink_old) printed
   -- after Usage and Refused the source and the disk are as they were, and nothing was printed
   pub alone : IsTurnedAway how → (source_new ≡ source_old) × (disk_new ≡ disk_old) × (printed ≡ sink.taken sink_old)
   -- of a known script: all lines up to its end, or the first ones

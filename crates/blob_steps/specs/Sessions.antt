@@ -1,5 +1,5 @@
 -- Sessions as the values that the definitions speak of.
-use Rattle.std.specs.Prelude.{◌≡◌, ℕ, List, Option, true, false}
+use Rattle.std.specs.Prelude.{◌≡◌, ℕ, List, Option, Some, None, true, false}
 use Rattle.std.specs.FinMap.{contains_key, len}
 use Rattle.store_model.specs.Group.{transaction_of}
 use Rattle.blob_steps.specs.declared.session.Session.{Session}
@@ -10,6 +10,8 @@ use Rattle.store_model.specs.Transaction.{Transaction}
 use Rattle.store_model.specs.Turn.{is_one_too_many, is_stale, with_read}
 use Rattle.store_model.specs.Turn as model
 use Rattle.store_model.specs.Answer as answer
+use Rattle.store_model.specs.State.{State}
+use Rattle.store_model.specs.Verify.{LeadsTo}
 use Rattle.store_model.specs.Store.{Store, content_at}
 use Rattle.blob_steps.specs.declared.session.Look.{Look}
 use Rattle.blob_steps.specs.declared.session.Look.TheVariants as look
@@ -39,6 +41,13 @@ ReadGives old key now reading.Stored new = (contains_key old.changes key ≡ fal
 abbrev pub show_of : Look → Option (List ℕ) → answer.AnswerLine
 show_of look.Get = model.shown
 show_of look.Stat = model.measured
+
+-- What a look at a state of the store shows, whatever the disk tells: no object; a content that leads to the state's digest; its
+-- size and its digest.
+abbrev pub ShownOf : Look → Option State → answer.AnswerLine → Type 0
+ShownOf look None line = line ≡ answer.Absent
+ShownOf look.Get (Some state) line = (content : List ℕ) × (line ≡ answer.Value content) × LeadsTo content state
+ShownOf look.Stat (Some state) line = line ≡ answer.Stat state.size state.digest
 
 -- the action that a look is
 abbrev pub look_action : Look → List ℕ → model.Action

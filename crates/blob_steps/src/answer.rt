@@ -2,7 +2,7 @@
 
 ghost use Rattle.std.specs.Prelude.{◌≡◌, ◌++◌, OnOk, decimal};
 ghost use Rattle.store_model.specs.Answer.{line_text, NoRoom, NoSpace, Value, Stat};
-ghost use Rattle.blob_steps.specs.Answers.{model_line, text_of};
+ghost use Rattle.blob_steps.specs.Answers.{model_line, line_of_answer};
 
 use blob_base::{Bytes, Key, OutOfMemory};
 use sha_resume::Digest;
@@ -38,7 +38,7 @@ pub(crate) enum Answer {
 impl Answer {
     /// Adds the answer as a line, with its end.
     pub(crate) fn print(&self, alloc: Global, out: &mut Bytes) -> Result<(), OutOfMemory>
-        ensures { OnOk result (out.new ≡ out.old ++ text_of self.now) }
+        ensures { OnOk result (out.new ≡ out.old ++ line_of_answer self.now) }
     {
         match self {
             Answer::Session { session, line } => {

@@ -14,7 +14,7 @@ ghost use Rattle.store_model.specs.Standing.{AllStand};
 ghost use Rattle.store_model.specs.Store.{Store as ModelStore, empty_store};
 ghost use Rattle.blob_steps.specs.Steps.{CameTo, IsPlayed, WorldStands, weight};
 ghost use Rattle.blob_steps.specs.Words.{model_step};
-ghost use Rattle.blob_steps.specs.Answers.{text_of};
+ghost use Rattle.blob_steps.specs.Answers.{line_of_answer};
 ghost use Rattle.blob_steps.specs.Lines.{NoLine};
 ghost use Rattle.blob_steps.specs.Stores.{IsSound};
 ghost use Rattle.blob_steps.specs.Runs.{Closed, Ended, EndedBy, IsRaised, IsTooSmall, IsTurnedAway, IsUndamaged, KeepsEnds, Run as WholeRun, ShowsDamage, counts_of};

@@ -23,9 +23,9 @@ ghost use Rattle.store_model.specs.Verify.{LeadsTo, Verifies};
 ghost use Rattle.relation.specs.Parts.{encoded_by, owned_by};
 ghost use Rattle.blob_steps.specs.Answers.{model_line};
 ghost use Rattle.blob_steps.specs.Places.{blocks_by, changes_of, places_of};
-ghost use Rattle.blob_steps.specs.Sessions.{show_of};
+ghost use Rattle.blob_steps.specs.Sessions.{ShownOf, show_of};
 ghost use Rattle.blob_steps.specs.Stores.{IsSound, Replied, StoreStands, object_of, objects_with, old_blocks, old_bytes, replaced_bytes, room_line, write_bytes, write_pages};
-ghost use Rattle.blob_steps.specs.Faults.{DamageOf, FailsOn, IsRaised, IsUndamagedFault, ShowsDamage};
+ghost use Rattle.blob_steps.specs.Faults.{DamageOf, FailsOn, NamesKey, IsRaisedFault, IsUndamagedFault, ShowsDamageFault};
 ghost use Rattle.store_model.specs.Answer.{Value};
 
 use crate::answer::AnswerLine;
@@ -129,19 +129,21 @@ impl Store {
     ) -> Result<AnswerLine, StepFault>
         requires sound { IsSound self.now }
         requires disk { total_pages self.now.layout ≤ D.size disk.old }
+        ensures shown { IfOk result (λ line. ShownOf look (map.get self.now.relation.states key.now) (model_line line)) }
+        ensures names { IfErr result (NamesKey key.now) }
         ensures line { IsTrue D.tells → (objects : map.FinMap key_order Object)
             → SameObjects self.now.relation.states objects
             → AllStand (D.story disk.old).reads self.now.layout objects
             → IfOk result (λ line.
             model_line line ≡ show_of look (option_map (λ object. object.content) (map.get objects key.now))) }
         ensures damage { (objects : map.FinMap key_order Object) → SameObjects self.now.relation.states objects
-            → IfErr result (ShowsDamage objects) }
+            → IfErr result (ShowsDamageFault objects) }
         ensures whole { IsTrue D.tells → (objects : map.FinMap key_order Object)
             → SameObjects self.now.relation.states objects
             → AllStand (D.story disk.old).reads self.now.layout objects → IfErr result IsUndamagedFault }
         ensures only_reads { OnlyReads D.Disk disk.old disk.new }
         ensures reads { IsTrue D.tells → OnOk result (Reads (D.calls disk.old) (D.calls disk.new)) }
-        ensures raised { IfErr result (IsRaised (D.faults disk.old) (D.faults disk.new)) }
+        ensures raised { IfErr result (IsRaisedFault (D.faults disk.old) (D.faults disk.new)) }
     {
         self.space.rules();
         match self.relation.get(key) {
@@ -333,7 +335,7 @@ fn read_value<D: Disk>(
     ensures only_reads { OnlyReads D.Disk disk.old disk.new }
     ensures reads { IsTrue D.tells → OnOk result
         (Took (pages_across 0 state.now.size) 0 0 (D.calls disk.old) (D.calls disk.new)) }
-    ensures raised { IfErr result (IsRaised (D.faults disk.old) (D.faults disk.new)) }
+    ensures raised { IfErr result (IsRaisedFault (D.faults disk.old) (D.faults disk.new)) }
 {
     state.rules();
     let mut content = vec![in alloc; 0; state.size() as usize]?;

@@ -28,11 +28,10 @@ pub(crate) struct World {
 }
 
 impl World {
-    ghost use Rattle.blob_steps.specs.Answers.{model_line, text_of};
+    ghost use Rattle.blob_steps.specs.Answers.{model_line, line_of_answer};
     ghost use Rattle.blob_steps.specs.Words.{model_action, model_step};
     ghost use Rattle.blob_steps.specs.Sessions.{look_action};
-    ghost use Rattle.blob_steps.specs.Faults.{IsRaised, IsUndamagedFault, ShowsDamage};
-    ghost use Rattle.blob_steps.specs.Steps.{CameTo, IsPlayed, WorldStands, weight};
+    ghost use Rattle.blob_steps.specs.Steps.{CameTo, IsPlayed, Stepped, WorldStands, weight};
     ghost use Rattle.blob_steps.specs.Stores.{IsSound};
 
     /// An empty store, and no transaction.
@@ -61,15 +60,8 @@ impl World {
         requires disk { total_pages self.old.store.layout ≤ D.size disk.old }
         ensures step { (world : ModelWorld) → WorldStands self.old world
             → IfOk result (λ answer. CameTo D.Disk world (step_play self.new.store.layout world (model_step step))
-            (text_of answer) self.new disk.old disk.new) }
-        ensures damage { (world : ModelWorld) → WorldStands self.old world → IfErr result (ShowsDamage world.store.objects) }
-        ensures whole { IsTrue D.tells → (world : ModelWorld) → WorldStands self.old world
-            → AllStand (D.story disk.old).reads self.old.store.layout world.store.objects → IfErr result IsUndamagedFault }
-        ensures weight { OnOk result (weight self.new ≤ weight self.old + 1) }
-        ensures sound { OnOk result (IsSound self.new.store) }
-        ensures layout { self.new.store.layout ≡ self.old.store.layout }
-        ensures keeps { Keeps D.Disk disk.old disk.new }
-        ensures raised { IfErr result (IsRaised (D.faults disk.old) (D.faults disk.new)) }
+            (line_of_answer answer) self.new disk.old disk.new) }
+        ensures stepped { Stepped D.Disk disk.old disk.new self.old self.new result }
     {
         match step {
             Step::Session { session, action } => {
@@ -93,14 +85,7 @@ impl World {
             → IfOk result (λ line. CameTo D.Disk world
             (step_play self.new.store.layout world (ModelSession 0 (model_action action)))
             (answer_text 0 (model_line line)) self.new disk.old disk.new) }
-        ensures damage { (world : ModelWorld) → WorldStands self.old world → IfErr result (ShowsDamage world.store.objects) }
-        ensures whole { IsTrue D.tells → (world : ModelWorld) → WorldStands self.old world
-            → AllStand (D.story disk.old).reads self.old.store.layout world.store.objects → IfErr result IsUndamagedFault }
-        ensures weight { OnOk result (weight self.new ≤ weight self.old + 1) }
-        ensures sound { OnOk result (IsSound self.new.store) }
-        ensures layout { self.new.store.layout ≡ self.old.store.layout }
-        ensures keeps { Keeps D.Disk disk.old disk.new }
-        ensures raised { IfErr result (IsRaised (D.faults disk.old) (D.faults disk.new)) }
+        ensures stepped { Stepped D.Disk disk.old disk.new self.old self.new result }
     {
         match action {
             Action::Begin => Ok(self.session.begin(alloc)),
@@ -125,14 +110,7 @@ impl World {
             → IfOk result (λ line. CameTo D.Disk world
             (step_play self.new.store.layout world (ModelSession 0 (look_action look key.now)))
             (answer_text 0 (model_line line)) self.new disk.old disk.new) }
-        ensures damage { (world : ModelWorld) → WorldStands self.old world → IfErr result (ShowsDamage world.store.objects) }
-        ensures whole { IsTrue D.tells → (world : ModelWorld) → WorldStands self.old world
-            → AllStand (D.story disk.old).reads self.old.store.layout world.store.objects → IfErr result IsUndamagedFault }
-        ensures weight { OnOk result (weight self.new ≤ weight self.old + 1) }
-        ensures sound { OnOk result (IsSound self.new.store) }
-        ensures layout { self.new.store.layout ≡ self.old.store.layout }
-        ensures keeps { Keeps D.Disk disk.old disk.new }
-        ensures raised { IfErr result (IsRaised (D.faults disk.old) (D.faults disk.new)) }
+        ensures stepped { Stepped D.Disk disk.old disk.new self.old self.new result }
     {
         let now = self.store.number(key);
         match self.session.look(alloc, look, key, now)? {
@@ -147,16 +125,9 @@ impl World {
         requires weight { weight self.old < 1024 }
         requires disk { total_pages self.old.store.layout ≤ D.size disk.old }
         ensures lead { (world : ModelWorld) → WorldStands self.old world
-            → IfOk result (λ answer. CameTo D.Disk world (lead self.new.store.layout world) (text_of answer) self.new
+            → IfOk result (λ answer. CameTo D.Disk world (lead self.new.store.layout world) (line_of_answer answer) self.new
             disk.old disk.new) }
-        ensures damage { (world : ModelWorld) → WorldStands self.old world → IfErr result (ShowsDamage world.store.objects) }
-        ensures whole { IsTrue D.tells → (world : ModelWorld) → WorldStands self.old world
-            → AllStand (D.story disk.old).reads self.old.store.layout world.store.objects → IfErr result IsUndamagedFault }
-        ensures weight { OnOk result (weight self.new ≤ weight self.old + 1) }
-        ensures sound { OnOk result (IsSound self.new.store) }
-        ensures layout { self.new.store.layout ≡ self.old.store.layout }
-        ensures keeps { Keeps D.Disk disk.old disk.new }
-        ensures raised { IfErr result (IsRaised (D.faults disk.old) (D.faults disk.new)) }
+        ensures stepped { Stepped D.Disk disk.old disk.new self.old self.new result }
     {
         match mem::replace(&mut self.session, Session::Free) {
             Session::Waiting { transaction } => {

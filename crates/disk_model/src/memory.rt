@@ -42,6 +42,7 @@ impl MemDisk {
         ensures none { IfOk result (λ disk. disk_calls disk ≡ record { reads = 0; writes = 0; syncs = 0 }) }
         ensures faults { IfOk result (λ disk. disk_faults disk ≡ 0) }
         ensures size { IfOk result (λ disk. disk_size disk ≡ pages) }
+        ensures chosen { IfOk result (λ disk. disk.fails ≡ fails) }
     {
         Ok(MemDisk {
             alloc,
@@ -66,6 +67,7 @@ impl MemDisk {
         ensures none { IfOk result (λ disk. disk_calls disk ≡ record { reads = 0; writes = 0; syncs = 0 }) }
         ensures faults { IfOk result (λ disk. disk_faults disk ≡ 0) }
         ensures size { IfOk result (λ disk. disk_size disk ≡ disk_size self.now) }
+        ensures chosen { IfOk result (λ disk. disk.fails ≡ []) }
     {
         let start = self.crashed_start(alloc, moment, picks)?;
         Ok(MemDisk {

@@ -40,6 +40,9 @@ impl MemSource {
     pub fn new(bytes: Bytes, piece: usize, fails: Bytes64) -> MemSource
         requires { 0 < piece }
         ensures left { source_left result ≡ bytes }
+        ensures piece { result.piece ≡ piece }
+        ensures chosen { result.fails ≡ fails }
+        ensures calls { result.calls ≡ 0 }
         ensures faults { source_faults result ≡ 0 }
     {
         MemSource {
@@ -100,6 +103,8 @@ impl MemSink {
     /// An empty sink that fails at the writes of these numbers.
     pub fn new(alloc: Global, fails: Bytes64) -> MemSink
         ensures taken { sink_taken result ≡ [] }
+        ensures chosen { result.fails ≡ fails }
+        ensures calls { result.calls ≡ 0 }
         ensures faults { sink_faults result ≡ 0 }
     {
         MemSink {

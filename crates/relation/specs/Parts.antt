@@ -40,6 +40,10 @@ parts_of r = record { states = from_sorted (entries_of r.entries.items); spare =
 abbrev pub encoded_bytes : List (List ℕ × State) → ℕ
 encoded_bytes es = sum_by (λ entry. length (spelling entry.0 entry.1)) es
 
+-- a relation keeps the count of its bytes below this
+abbrev pub bytes_bound : ℕ
+bytes_bound = 2 ^ 62
+
 -- the entries stand in the order of their keys, a place is free for each spare one, and there is room for a free place to
 -- become an entry and back, and the bytes are those that the entries take
 pub record IsSound (r : Inside) : Type 0 where
@@ -48,7 +52,7 @@ pub record IsSound (r : Inside) : Type 0 where
   pub room : vec_len r.entries + vec_len r.free ≤ vec_capacity r.entries
   pub back : vec_len r.entries + vec_len r.free ≤ vec_capacity r.free
   pub bytes : r.bytes ≡ encoded_bytes (entries_of r.entries.items)
-  pub few : r.bytes < 2 ^ 62
+  pub few : r.bytes < bytes_bound
 
 -- the blocks of states by their keys, one behind the other
 abbrev pub blocks_by : List (List ℕ × State) → List Block

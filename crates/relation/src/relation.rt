@@ -3,7 +3,7 @@
 ghost use Rattle.std.specs.Prelude.{◌≡◌, ◌+◌, ◌-◌, ◌^◌, ◌<◌, ◌≤◌, ◌==◌, ◌⊎◌, Some, IsTrue, if◌then◌else◌, slice_get, option_copied, vec_len, vec_capacity, IfOk, OnOk, OnErr};
 ghost use Rattle.std.specs.FinMap as map;
 ghost use Rattle.store_model.specs.Tuple.{greatest_tuple};
-ghost use Rattle.relation.specs.Parts.{blocks_by, encoded_by, owned_by};
+ghost use Rattle.relation.specs.Parts.{blocks_by, bytes_bound, encoded_by, owned_by};
 ghost use Rattle.relation.specs.Entries.{entries_of};
 
 use crate::entries::{Entry, search};
@@ -144,7 +144,7 @@ impl Relation {
     /// Sets the state of a key. Where the key isn't there, this takes a spare place.
     pub fn set(&mut self, key: Key, state: BlobState)
         requires spare { IsTrue (map.contains_key self.old.states key) ⊎ (1 ≤ self.old.spare) }
-        requires bytes { encoded_by (map.insert self.old.states key state) < 2 ^ 62 }
+        requires bytes { encoded_by (map.insert self.old.states key state) < bytes_bound }
         ensures states { self.new.states ≡ map.insert self.old.states key state }
         ensures spare { self.new.spare
             ≡ (if map.contains_key self.old.states key then self.old.spare else self.old.spare - 1) }

@@ -12,7 +12,7 @@ use Rattle.blob_steps.specs.Stores.{IsSound}
 use Rattle.blob_steps.proofs.run.run_script.Given as goal
 
 -- what holds whatever the disk and the source tell
-pub record Kept {S K D : Type 0} (source : source_trait.Ghosts S) (sink : sink_trait.Ghosts K) (disk : disk_trait.Ghosts D) (mine_layout layout : Layout) (weight_now number : ℕ)
+pub record RunKept {S K D : Type 0} (source : source_trait.Ghosts S) (sink : sink_trait.Ghosts K) (disk : disk_trait.Ghosts D) (mine_layout layout : Layout) (weight_now number : ℕ)
     (source_old : S) (sink_old : K) (disk_old : D) (source_new : S) (sink_new : K) (disk_new : D) : Type 0 where
   pub layout_is : mine_layout ≡ layout
   pub light : weight_now + 1 ≤ number
@@ -25,5 +25,5 @@ invariant-loop-number g l =
     Going g.D.Disk empty_store l.run.world l.number (source.left l.fn.source) (prepend_known l.run.reader (source.left l.source))
     (sink.taken l.fn.sink) (sink.taken l.sink) l.fn.disk l.disk
     × IsSound l.run.world.store
-    × Kept source sink g.D.Disk l.run.world.store.layout l.fn.layout (weight l.run.world) l.number
+    × RunKept source sink g.D.Disk l.run.world.store.layout l.fn.layout (weight l.run.world) l.number
     l.fn.source l.fn.sink l.fn.disk l.source l.sink l.disk

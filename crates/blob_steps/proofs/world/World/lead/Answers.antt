@@ -10,9 +10,24 @@ use Rattle.blob_steps.specs.Steps.{queue_of}
 use Rattle.blob_steps.proofs.Turns.{CameTo-idle, CameTo-waiting, nobody_waits}
 use Rattle.blob_steps.proofs.world.World.lead.Goals as goal
 
-pub returns-in_ok-line-in-Waiting-clause-weight : goal.returns-in_ok-line-in-Waiting-clause-weight
-returns-in_ok-line-in-Waiting-clause-weight g c =
-    omega (arith, c.in_ok-line-in-Waiting.ensures.last, ap (λ s. change_count (model_session s)) c.in-Waiting.ensures.value, ap (λ s. change_count (model_session s)) c.in-Waiting.ensures.after, len-empty key_order Change)
+pub returns-in_ok-line-in-Waiting-clause-stepped : goal.returns-in_ok-line-in-Waiting-clause-stepped
+returns-in_ok-line-in-Waiting-clause-stepped g c =
+    let done = c.in_ok-line-in-Waiting.ensures in
+    record {
+      sound = done.sound;
+      grown = omega (
+        arith,
+        done.last,
+        ap (λ s. change_count (model_session s)) c.in-Waiting.ensures.value,
+        ap (λ s. change_count (model_session s)) c.in-Waiting.ensures.after,
+        len-empty key_order Change,
+      );
+      layout = c.commit.ensures.layout;
+      keeps = c.commit.ensures.keeps;
+      raised = tt;
+      damage = λ world is. tt;
+      whole = λ told world is stand. tt;
+    }
 
 pub returns-in_ok-line-in-Waiting-clause-lead : goal.returns-in_ok-line-in-Waiting-clause-lead
 returns-in_ok-line-in-Waiting-clause-lead g c = λ world is.
@@ -29,11 +44,13 @@ returns-in_default g c =
       lead = λ world is.
           CameTo-idle g.D.Disk c.args.disk.now c.args.self.now (record { store = c.args.self.now.store; session = c.replace.result }) world Idle is
           (ap (λ s. queue_of (model_session s)) (sym same) ∙ nobody_waits c.replace.result c.in_default.not-Waiting) refl refl (ap model_session same);
-      damage = λ world is. tt;
-      whole = λ told world is stand. tt;
-      weight = omega (arith, ap (λ s. change_count (model_session s)) same);
-      sound = c.requires.sound;
-      layout = refl;
-      keeps = Keeps-none g.D.Disk c.args.disk.now;
-      raised = tt;
+      stepped = record {
+        sound = c.requires.sound;
+        grown = omega (arith, ap (λ s. change_count (model_session s)) same);
+        layout = refl;
+        keeps = Keeps-none g.D.Disk c.args.disk.now;
+        raised = tt;
+        damage = λ world is. tt;
+        whole = λ told world is stand. tt;
+      };
     }

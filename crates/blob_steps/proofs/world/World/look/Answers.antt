@@ -1,4 +1,4 @@
-use Rattle.std.proofs.Common.{sym, ◌∙◌, ap, refl}
+use Rattle.std.proofs.Common.{rules, sym, ◌∙◌, ap, refl}
 use Rattle.store_model.specs.Store.{content_at}
 use Rattle.blob_steps.specs.Answers.{model_line}
 use Rattle.blob_steps.specs.Sessions.{model_session, got_line, look_action, show_of}
@@ -21,5 +21,13 @@ returns-in-Stored-clause-turn g c = λ world is.
     (show_of c.args.look (content_at world.store key)) c.show.result is refl refl turned
     (λ told stand. c.show.ensures.line told world.store.objects is.store.objects stand) c.show.ensures.only_reads c.show.ensures.reads
 
-pub returns-in-Stored-clause-damage : goal.returns-in-Stored-clause-damage
-returns-in-Stored-clause-damage g c = λ world is. c.show.ensures.damage world.store.objects is.store.objects
+pub returns-in-Stored-clause-stepped : goal.returns-in-Stored-clause-stepped
+returns-in-Stored-clause-stepped g c = record {
+  sound = search rules;
+  grown = search rules;
+  layout = refl;
+  keeps = c.show.ensures.only_reads.keeps;
+  raised = c.show.ensures.raised;
+  damage = λ world is. c.show.ensures.damage world.store.objects is.store.objects;
+  whole = λ told world is stand. c.show.ensures.whole told world.store.objects is.store.objects stand;
+}
