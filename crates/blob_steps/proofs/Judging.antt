@@ -34,7 +34,7 @@ use Rattle.store_model.proofs.SortedLaws.{find-at}
 use Rattle.store_model.proofs.StoredLaws.{length-stored}
 use Rattle.extent_alloc.specs.Parts.{Parts}
 use Rattle.relation.specs.Parts.{encoded_by, owned_by}
-use Rattle.blob_steps.specs.Places.{Takes, blocks_by, changes_of, places_of}
+use Rattle.blob_steps.specs.Places.{Takes, place_blocks, changes_of, places_of}
 use Rattle.blob_steps.specs.Stores.{Did, Replied, StoreStands, object_of, objects_with, old_bytes, replaced_bytes, room_line, write_bytes, write_pages}
 use Rattle.disk_model.specs.Disks.{OnlyWrites}
 use Rattle.disk_model.specs.declared.disk.Disk.{Ghosts}
@@ -410,7 +410,7 @@ commit_of number transaction writes = record { number = number; changes = entrie
 Did-writes : {D : Type 0} (g : Ghosts D) (layout : Layout) (before after : FinMap key_order Object) (number : ℕ) (transaction : Transaction)
     (changes : FinMap key_order Change) (writes : List Write) (old new : D) → transaction.changes ≡ changes → changes_of writes ≡ entries changes
     → (IsTrue g.tells → AllStand (g.story old).reads layout before → AllStand (g.story new).reads layout after)
-    → OnlyWrites g (IsOwnedPage layout (blocks_by (places_of writes))) old new
+    → OnlyWrites g (IsOwnedPage layout (place_blocks (places_of writes))) old new
     → (IsTrue g.tells → Took 0 (sum_by write_pages writes) 1 (g.calls old) (g.calls new))
     → Did g layout before after (commit_of number transaction writes ∷ []) old new
 Did-writes g layout before after number transaction changes writes old new changes_is same stand wrote took =
@@ -420,7 +420,7 @@ Did-writes g layout before after number transaction changes writes old new chang
     record {
       objects = stand;
       wrote = λ told. subst (λ (blocks : List Block). Wrote (IsOwnedPage layout blocks) (g.story old) (g.story new))
-          (sym (append-nil (blocks_by (places_of writes)))) (wrote.wrote told);
+          (sym (append-nil (place_blocks (places_of writes)))) (wrote.wrote told);
       writes = λ told. omega (arith, (took told).writes, pages);
       syncs = λ told. (took told).syncs;
     }
@@ -438,7 +438,7 @@ pub Replied-commits : {D : Type 0} (g : Ghosts D) (old new : D) (mine later : St
     → SameObjects later.relation.states (objects_with (mine.last + 1) store.objects writes)
     → (IsTrue g.tells → AllStand (g.story old).reads mine.layout store.objects
     → AllStand (g.story new).reads mine.layout (objects_with (mine.last + 1) store.objects writes))
-    → OnlyWrites g (IsOwnedPage mine.layout (blocks_by (places_of writes))) old new
+    → OnlyWrites g (IsOwnedPage mine.layout (place_blocks (places_of writes))) old new
     → (IsTrue g.tells → Took 0 (sum_by write_pages writes) 1 (g.calls old) (g.calls new))
     → later.layout ≡ mine.layout → later.last ≡ mine.last + 1 → number ≡ mine.last + 1
     → Replied g old new later store transaction (answer.Committed number)
@@ -498,10 +498,10 @@ given-back more listed given states old new takes gives moves =
 
 -- a space that found places owns these and what the states own
 pub taken-owned : (writes slice : List Write) (listed states : List Block) (old new : Parts)
-    → Takes (blocks_by (places_of writes)) old new [] listed
-    → IsPermutation old.owned states → slice ≡ writes → IsPermutation new.owned (blocks_by (places_of slice) ++ states)
+    → Takes (place_blocks (places_of writes)) old new [] listed
+    → IsPermutation old.owned states → slice ≡ writes → IsPermutation new.owned (place_blocks (places_of slice) ++ states)
 taken-owned writes slice listed states old new takes moves same =
-    subst (λ (ws : List Write). IsPermutation new.owned (blocks_by (places_of ws) ++ states)) (sym same)
-    (IsPermutation-trans new.owned (blocks_by (places_of writes) ++ old.owned)
-    (blocks_by (places_of writes) ++ states) takes.owned
-    (IsPermutation-append_right (blocks_by (places_of writes)) old.owned states moves))
+    subst (λ (ws : List Write). IsPermutation new.owned (place_blocks (places_of ws) ++ states)) (sym same)
+    (IsPermutation-trans new.owned (place_blocks (places_of writes) ++ old.owned)
+    (place_blocks (places_of writes) ++ states) takes.owned
+    (IsPermutation-append_right (place_blocks (places_of writes)) old.owned states moves))

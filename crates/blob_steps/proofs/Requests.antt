@@ -11,7 +11,7 @@ use Rattle.store_model.specs.Store.{Placement}
 use Rattle.store_model.specs.Transaction.{Change, content_of}
 use Rattle.store_model.proofs.OrderLaws.{places_for-permutation}
 use Rattle.blob_steps.specs.Fitting.{Fits}
-use Rattle.blob_steps.specs.Places.{Fails, IsPlaceFault, IsTakeFault, Takes, TakesHeads, blocks_by, changes_of, heads_by, places_of, tail_list}
+use Rattle.blob_steps.specs.Places.{Fails, IsPlaceFault, IsTakeFault, Takes, TakesHeads, place_blocks, changes_of, heads_by, places_of, tail_list}
 use Rattle.blob_steps.specs.declared.places.TakeFault.TheVariants as take_fault
 use Rattle.blob_steps.specs.declared.write.Write.{Write}
 use Rattle.blob_steps.proofs.Takings.{Takes-then, length-extent_blocks}
@@ -74,7 +74,7 @@ places_for-fails key change rest tier old fails =
 pub record Requesting (all rest : List (List ℕ × Change)) (count left : ℕ) (writes : List Write) (old now : Parts) (listed : List Block) : Type 0 where
   pub found : places_for old.pages all old.owned ≡ places_then (places_of writes) (places_for now.pages rest now.owned)
   pub changes : changes_of writes ++ rest ≡ all
-  pub takes : Takes (blocks_by (places_of writes)) old now [] listed
+  pub takes : Takes (place_blocks (places_of writes)) old now [] listed
   pub number : length writes + left ≡ count
   pub few : length listed ≤ 128 * length writes
 
@@ -106,8 +106,8 @@ pub Requesting-next : (all seen rest : List (List ℕ × Change)) (count left le
     → Requesting all rest count less (writes ++ write ∷ []) old new after
 Requesting-next all seen rest count left less writes write old now new listed after so_far is fewer fits took takes =
     let places : places_of (writes ++ write ∷ []) ≡ places_of writes ++ write.place ∷ [] = map-append (λ (w : Write). w.place) writes (write ∷ []) in
-    let blocks : blocks_by (places_of (writes ++ write ∷ [])) ≡ blocks_by (places_of writes) ++ blocks_of write.place =
-    ap blocks_by places ∙ flat_map-append blocks_of (places_of writes) (write.place ∷ []) ∙ ap (λ (bs : List Block). blocks_by (places_of writes) ++ bs) (append-nil (blocks_of write.place)) in
+    let blocks : place_blocks (places_of (writes ++ write ∷ [])) ≡ place_blocks (places_of writes) ++ blocks_of write.place =
+    ap place_blocks places ∙ flat_map-append blocks_of (places_of writes) (write.place ∷ []) ∙ ap (λ (bs : List Block). place_blocks (places_of writes) ++ bs) (append-nil (blocks_of write.place)) in
     record {
       found = so_far.found
           ∙ ap (λ (cs : List (List ℕ × Change)). places_then (places_of writes) (places_for now.pages cs now.owned)) is
@@ -119,7 +119,7 @@ Requesting-next all seen rest count left less writes write old now new listed af
           ∙ append_assoc (changes_of writes) ((write.key, write.change) ∷ []) rest
           ∙ ap (λ (cs : List (List ℕ × Change)). changes_of writes ++ cs) (sym is)
           ∙ so_far.changes;
-      takes = subst (λ (bs : List Block). Takes bs old new [] after) (sym blocks) (Takes-then (blocks_by (places_of writes)) (blocks_of write.place) old now new [] listed after so_far.takes takes);
+      takes = subst (λ (bs : List Block). Takes bs old new [] after) (sym blocks) (Takes-then (place_blocks (places_of writes)) (blocks_of write.place) old now new [] listed after so_far.takes takes);
       number = omega (arith, so_far.number, fewer, length-append writes (write ∷ []));
       few = omega (arith, so_far.few, length-append writes (write ∷ []), ap length takes.listed, length-append listed (blocks_of write.place), length-blocks_of (length (content_of write.change)) write.place fits);
     }
@@ -140,5 +140,5 @@ Requesting-fails all seen rest count left writes key change tier old now new lis
   so_far.found
       ∙ ap (λ (cs : List (List ℕ × Change)). places_then (places_of writes) (places_for now.pages cs now.owned)) is
       ∙ ap (places_then (places_of writes)) (places_for-fails key change rest tier now fails.0),
-  (blocks_by (places_of writes) ++ fails.1.0, Takes-then (blocks_by (places_of writes)) fails.1.0 old now new [] listed after so_far.takes fails.1.1),
+  (place_blocks (places_of writes) ++ fails.1.0, Takes-then (place_blocks (places_of writes)) fails.1.0 old now new [] listed after so_far.takes fails.1.1),
 )

@@ -17,7 +17,7 @@ use Rattle.store_model.specs.Standing.{AllStand, BothStand, SameObjects}
 use Rattle.store_model.specs.Store.{Store, Object, empty_store, number_at}
 use Rattle.store_model.specs.Transaction.{Transaction, is_touched}
 use Rattle.store_model.specs.Transaction as tr
-use Rattle.store_model.specs.Turn.{Session, Free, Open, Waiting, Action, Begin, Get, Stat, Put, Commit, Turned, turn, look_turn, shown, measured, with_read, is_one_too_many, is_stale}
+use Rattle.store_model.specs.Turn.{Session, Free, Open, Waiting, Action, Begin, Get, Stat, Put, Commit, Turned, turn, look_turn, shown, measured, with_number, is_one_too_many, is_stale}
 use Rattle.store_model.specs.Answer.{AnswerLine, answer_text, idle_text}
 use Rattle.store_model.specs.Group.{Outcome, World, lead, lead_queue, lead_request, transaction_of, world_over}
 use Rattle.store_model.specs.Play.{queue_after, step_play}
@@ -45,7 +45,7 @@ branches : {A : Type 0} (P : A → Type 0) (b : Bool) (x y : A) → P x → P y 
 branches P true x y p q = p
 branches P false x y p q = q
 
-read_count : (now : Option ℕ) (transaction : Transaction) (key : List ℕ) → len (with_read now transaction key).changes ≤ len transaction.changes + 1
+read_count : (now : Option ℕ) (transaction : Transaction) (key : List ℕ) → len (with_number now transaction key).changes ≤ len transaction.changes + 1
 read_count now transaction key = branches (λ t. len t.changes ≤ len transaction.changes + 1) (is_touched transaction key) transaction _ (omega arith) (omega arith)
 
 -- a look makes no change

@@ -18,7 +18,7 @@ use Rattle.store_model.specs.State.{State}
 use Rattle.store_model.specs.Store.{Object}
 use Rattle.store_model.proofs.PlaceLaws.{owners-append, owners-permutation}
 use Rattle.relation.specs.Parts.{encoded_by, owned_by}
-use Rattle.blob_steps.specs.Places.{blocks_by, places_of}
+use Rattle.blob_steps.specs.Places.{place_blocks, places_of}
 use Rattle.blob_steps.specs.Stores.{object_of, objects_with, old_blocks, write_pages}
 use Rattle.disk_model.specs.Disks.{OnlyWrites}
 use Rattle.disk_model.specs.declared.disk.Disk.{Ghosts}
@@ -61,7 +61,7 @@ moved-on place rest replaced old now later moves =
 -- what is left of the writes leads from the objects now to where all of them lead from those at first.
 pub record Writing (tells : Bool) (layout : Layout) (number : ℕ) (old new : Image) (before after : FinMap key_order State)
     (space replaced : List Block) (all rest : List Write) : Type 0 where
-  pub owned : IsPermutation space (blocks_by (places_of rest) ++ (replaced ++ owned_by after))
+  pub owned : IsPermutation space (place_blocks (places_of rest) ++ (replaced ++ owned_by after))
   pub objects : (objects : FinMap key_order Object) → SameObjects before objects
       → (now : FinMap key_order Object)
       × (SameObjects after now × (objects_with number now rest ≡ objects_with number objects all)
@@ -69,11 +69,11 @@ pub record Writing (tells : Bool) (layout : Layout) (number : ℕ) (old new : Im
 
 -- none is done
 pub Writing-none : (tells : Bool) (layout : Layout) (number : ℕ) (old : Image) (before after : FinMap key_order State)
-    (space replaced : List Block) (all : List Write) → IsPermutation space (blocks_by (places_of all) ++ owned_by before)
+    (space replaced : List Block) (all : List Write) → IsPermutation space (place_blocks (places_of all) ++ owned_by before)
     → replaced ≡ [] → after ≡ before → Writing tells layout number old old before after space replaced all all
 Writing-none tells layout number old before after space replaced all moves none same = record {
-  owned = subst (λ (l : List Block). IsPermutation space (blocks_by (places_of all) ++ (l ++ owned_by after))) (sym none)
-      (subst (λ (m : FinMap key_order State). IsPermutation space (blocks_by (places_of all) ++ owned_by m))
+  owned = subst (λ (l : List Block). IsPermutation space (place_blocks (places_of all) ++ (l ++ owned_by after))) (sym none)
+      (subst (λ (m : FinMap key_order State). IsPermutation space (place_blocks (places_of all) ++ owned_by m))
       (sym same) moves);
   objects = λ objects stand. (
     objects,
@@ -87,8 +87,8 @@ Writing-none tells layout number old before after space replaced all moves none 
 
 -- a page of the next write is one of all writes
 page-among : (layout : Layout) (left rest all : List Write) (write : Write) (p : ℕ) → left ≡ write ∷ rest
-    → ((at : ℕ) → owners (blocks_by (places_of left)) at ≤ owners (blocks_by (places_of all)) at)
-    → IsOwnedPage layout (blocks_of write.place) p → IsOwnedPage layout (blocks_by (places_of all)) p
+    → ((at : ℕ) → owners (place_blocks (places_of left)) at ≤ owners (place_blocks (places_of all)) at)
+    → IsOwnedPage layout (blocks_of write.place) p → IsOwnedPage layout (place_blocks (places_of all)) p
 page-among layout left rest all write p left_is among page = record {
   at = page.at;
   is = page.is;
@@ -97,18 +97,18 @@ page-among layout left rest all write p left_is among page = record {
     arith,
     page.owned,
     among page.at,
-    ap (λ (ws : List Write). owners (blocks_by (places_of ws)) page.at) left_is,
-    owners-append (blocks_of write.place) (blocks_by (places_of rest)) page.at,
+    ap (λ (ws : List Write). owners (place_blocks (places_of ws)) page.at) left_is,
+    owners-append (blocks_of write.place) (place_blocks (places_of rest)) page.at,
   );
 }
 
 -- what is left of the writes owns no page that they all don't
 pub left-among : (i : ℕ) (writes : List Write) (at : ℕ)
-    → owners (blocks_by (places_of (drop i writes))) at ≤ owners (blocks_by (places_of writes)) at
+    → owners (place_blocks (places_of (drop i writes))) at ≤ owners (place_blocks (places_of writes)) at
 left-among zero writes at = omega arith
 left-among (suc i) [] at = omega arith
 left-among (suc i) (write ∷ writes) at =
-    omega (arith, left-among i writes at, owners-append (blocks_of write.place) (blocks_by (places_of writes)) at)
+    omega (arith, left-among i writes at, owners-append (blocks_of write.place) (place_blocks (places_of writes)) at)
 
 -- one more is done
 pub Writing-next : (tells : Bool) (layout now_layout : Layout) (number : ℕ) (old new newer : Image)
@@ -123,12 +123,12 @@ pub Writing-next : (tells : Bool) (layout now_layout : Layout) (number : ℕ) (o
     → Writing tells layout number old newer before later space more all rest
 Writing-next tells layout now_layout number old new newer before after later space replaced more all left rest write so_far left_is layout_is more_is moves set stand = record {
   owned =
-      subst (λ (l : List Block). IsPermutation space (blocks_by (places_of rest) ++ (l ++ owned_by later))) (sym more_is)
-      (IsPermutation-trans space ((blocks_of write.place ++ blocks_by (places_of rest)) ++ (replaced ++ owned_by after))
-      (blocks_by (places_of rest) ++ ((replaced ++ old_blocks (get after write.key)) ++ owned_by later))
-      (subst (λ (writes : List Write). IsPermutation space (blocks_by (places_of writes) ++ (replaced ++ owned_by after)))
+      subst (λ (l : List Block). IsPermutation space (place_blocks (places_of rest) ++ (l ++ owned_by later))) (sym more_is)
+      (IsPermutation-trans space ((blocks_of write.place ++ place_blocks (places_of rest)) ++ (replaced ++ owned_by after))
+      (place_blocks (places_of rest) ++ ((replaced ++ old_blocks (get after write.key)) ++ owned_by later))
+      (subst (λ (writes : List Write). IsPermutation space (place_blocks (places_of writes) ++ (replaced ++ owned_by after)))
       left_is so_far.owned)
-      (moved-on (blocks_of write.place) (blocks_by (places_of rest)) replaced (old_blocks (get after write.key))
+      (moved-on (blocks_of write.place) (place_blocks (places_of rest)) replaced (old_blocks (get after write.key))
       (owned_by after)
       (owned_by later) moves));
   objects = λ objects before_is.
@@ -146,11 +146,11 @@ Writing-next tells layout now_layout number old new newer before after later spa
 
 -- the pages of the next write are some of those of all
 pub OnlyWrites-next : {D : Type 0} (g : Ghosts D) (layout now_layout : Layout) (left rest all : List Write) (write : Write) (old mid new : D) → left ≡ write ∷ rest
-    → now_layout ≡ layout → ((at : ℕ) → owners (blocks_by (places_of left)) at ≤ owners (blocks_by (places_of all)) at)
-    → OnlyWrites g (IsOwnedPage layout (blocks_by (places_of all))) old mid → OnlyWrites g (IsOwnedPage now_layout (blocks_of write.place)) mid new
-    → OnlyWrites g (IsOwnedPage layout (blocks_by (places_of all))) old new
+    → now_layout ≡ layout → ((at : ℕ) → owners (place_blocks (places_of left)) at ≤ owners (place_blocks (places_of all)) at)
+    → OnlyWrites g (IsOwnedPage layout (place_blocks (places_of all))) old mid → OnlyWrites g (IsOwnedPage now_layout (blocks_of write.place)) mid new
+    → OnlyWrites g (IsOwnedPage layout (place_blocks (places_of all))) old new
 OnlyWrites-next g layout now_layout left rest all write old mid new left_is layout_is among so_far one =
-    OnlyWrites-more g (IsOwnedPage layout (blocks_of write.place)) (IsOwnedPage layout (blocks_by (places_of all))) old mid new
+    OnlyWrites-more g (IsOwnedPage layout (blocks_of write.place)) (IsOwnedPage layout (place_blocks (places_of all))) old mid new
     (λ p page. page-among layout left rest all write p left_is among page) so_far
     (subst (λ (l : Layout). OnlyWrites g (IsOwnedPage l (blocks_of write.place)) mid new) layout_is one)
 
@@ -181,31 +181,31 @@ took-all writes i was then now all took made =
 -- the blocks of the next write are among the data pages
 pub next-within : (pages : ℕ) (layout now_layout : Layout) (space behind : List Block) (left rest : List Write)
     (write : Write) → AreBlocks pages space
-    → pages ≡ data_pages layout → now_layout ≡ layout → IsPermutation space (blocks_by (places_of left) ++ behind)
+    → pages ≡ data_pages layout → now_layout ≡ layout → IsPermutation space (place_blocks (places_of left) ++ behind)
     → left ≡ write ∷ rest
     → AreBlocks (data_pages now_layout) (blocks_of write.place)
 next-within pages layout now_layout space behind left rest write blocks pages_is layout_is moves left_is block is =
-    let all : IsPermutation space ((blocks_of write.place ++ blocks_by (places_of rest)) ++ behind) =
-    subst (λ (writes : List Write). IsPermutation space (blocks_by (places_of writes) ++ behind)) left_is moves in
+    let all : IsPermutation space ((blocks_of write.place ++ place_blocks (places_of rest)) ++ behind) =
+    subst (λ (writes : List Write). IsPermutation space (place_blocks (places_of writes) ++ behind)) left_is moves in
     subst (λ (n : ℕ). AreBlocks n space) (pages_is ∙ ap data_pages (sym layout_is)) blocks block
-    (Contains-permutation ((blocks_of write.place ++ blocks_by (places_of rest)) ++ behind) space block
-    (IsPermutation-sym space ((blocks_of write.place ++ blocks_by (places_of rest)) ++ behind) all)
-    (Contains-append_left (blocks_of write.place ++ blocks_by (places_of rest)) behind block
-    (Contains-append_left (blocks_of write.place) (blocks_by (places_of rest)) block is)))
+    (Contains-permutation ((blocks_of write.place ++ place_blocks (places_of rest)) ++ behind) space block
+    (IsPermutation-sym space ((blocks_of write.place ++ place_blocks (places_of rest)) ++ behind) all)
+    (Contains-append_left (blocks_of write.place ++ place_blocks (places_of rest)) behind block
+    (Contains-append_left (blocks_of write.place) (place_blocks (places_of rest)) block is)))
 
 -- and share no page with those of a state
 pub next-apart : (space replaced now : List Block) (left rest : List Write) (write : Write) (page : ℕ) → Apart space
-    → IsPermutation space (blocks_by (places_of left) ++ (replaced ++ now)) → left ≡ write ∷ rest
+    → IsPermutation space (place_blocks (places_of left) ++ (replaced ++ now)) → left ≡ write ∷ rest
     → owners (blocks_of write.place) page + owners now page ≤ 1
 next-apart space replaced now left rest write page apart moves left_is =
-    let all : IsPermutation space ((blocks_of write.place ++ blocks_by (places_of rest)) ++ (replaced ++ now)) =
-    subst (λ (writes : List Write). IsPermutation space (blocks_by (places_of writes) ++ (replaced ++ now))) left_is moves in
+    let all : IsPermutation space ((blocks_of write.place ++ place_blocks (places_of rest)) ++ (replaced ++ now)) =
+    subst (λ (writes : List Write). IsPermutation space (place_blocks (places_of writes) ++ (replaced ++ now))) left_is moves in
     omega (
       arith,
       apart page,
-      owners-permutation space ((blocks_of write.place ++ blocks_by (places_of rest)) ++ (replaced ++ now)) page all,
-      owners-append (blocks_of write.place ++ blocks_by (places_of rest)) (replaced ++ now) page,
-      owners-append (blocks_of write.place) (blocks_by (places_of rest)) page,
+      owners-permutation space ((blocks_of write.place ++ place_blocks (places_of rest)) ++ (replaced ++ now)) page all,
+      owners-append (blocks_of write.place ++ place_blocks (places_of rest)) (replaced ++ now) page,
+      owners-append (blocks_of write.place) (place_blocks (places_of rest)) page,
       owners-append replaced now page,
     )
 
@@ -226,10 +226,10 @@ pub record Remains (old new : Store) (all i : ℕ) : Type 0 where
 -- all are done: the space owns what was replaced, and what the states own
 pub owned-done : (space replaced now : List Block) (writes left : List Write) (i : ℕ) → i ≡ length writes
     → left ≡ drop i writes
-    → IsPermutation space (blocks_by (places_of left) ++ (replaced ++ now)) → IsPermutation space (replaced ++ now)
+    → IsPermutation space (place_blocks (places_of left) ++ (replaced ++ now)) → IsPermutation space (replaced ++ now)
 owned-done space replaced now writes left i all left_is moves =
     let none : left ≡ [] = left_is ∙ drop_all i writes (omega (arith, all)) in
-    subst (λ (ws : List Write). IsPermutation space (blocks_by (places_of ws) ++ (replaced ++ now))) none moves
+    subst (λ (ws : List Write). IsPermutation space (place_blocks (places_of ws) ++ (replaced ++ now))) none moves
 
 -- and the objects are where all writes lead
 pub objects-done : (tells : Bool) (layout : Layout) (number : ℕ) (old new : Image) (before after : FinMap key_order State)

@@ -22,8 +22,8 @@ abbrev pub heads_by : Placement → List ℕ
 heads_by place = place.heads ++ tail_list place.tail
 
 -- the blocks of places, one behind the other
-abbrev pub blocks_by : List Placement → List Block
-blocks_by places = flat_map blocks_of places
+abbrev pub place_blocks : List Placement → List Block
+place_blocks places = flat_map blocks_of places
 
 -- the keys that writes set, with their changes
 abbrev pub changes_of : List Write → List (List ℕ × Change)

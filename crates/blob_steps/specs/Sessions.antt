@@ -7,7 +7,7 @@ use Rattle.blob_steps.specs.declared.session.Session.TheVariants as session
 use Rattle.blob_steps.specs.declared.session.Reading.{Reading}
 use Rattle.blob_steps.specs.declared.session.Reading.TheVariants as reading
 use Rattle.store_model.specs.Transaction.{Transaction}
-use Rattle.store_model.specs.Turn.{is_one_too_many, is_stale, with_read}
+use Rattle.store_model.specs.Turn.{is_one_too_many, is_stale, with_number}
 use Rattle.store_model.specs.Turn as model
 use Rattle.store_model.specs.Answer as answer
 use Rattle.store_model.specs.State.{State}
@@ -28,7 +28,7 @@ model_session (session.Waiting transaction) = model.Waiting transaction
 pub record IsRead (old : Transaction) (key : List ℕ) (now : Option ℕ) (new : Transaction) : Type 0 where
   pub room : is_one_too_many old key ≡ false
   pub fresh : is_stale now old key ≡ false
-  pub recorded : new ≡ with_read now old key
+  pub recorded : new ≡ with_number now old key
 
 -- how a read of a key whose number now is this one went
 abbrev pub ReadGives : Transaction → List ℕ → Option ℕ → Reading → Transaction → Type 0

@@ -10,7 +10,7 @@ ghost use Rattle.store_model.specs.Transaction.{content_of};
 ghost use Rattle.store_model.specs.Shape.{pages_of_tier};
 ghost use Rattle.store_model.specs.Space.{Block, blocks_of, extent_blocks, tail_blocks};
 ghost use Rattle.store_model.specs.State.{AreAligned};
-ghost use Rattle.blob_steps.specs.Places.{IsPlaceFault, IsTakeFault, Takes, TakesHeads, blocks_by, changes_of, heads_by, places_of, tail_list};
+ghost use Rattle.blob_steps.specs.Places.{IsPlaceFault, IsTakeFault, Takes, TakesHeads, place_blocks, changes_of, heads_by, places_of, tail_list};
 ghost use Rattle.blob_steps.specs.declared.places.TakeFault.TheVariants as fault;
 
 use crate::key_map::KeyMap;
@@ -154,7 +154,7 @@ pub(crate) fn take_places(
     requires none { taken.old ≡ [] }
     ensures found { IfOk result (λ writes. places_for space.old.pages (map.entries changes) space.old.owned ≡ Ok (places_of writes.items)) }
     ensures changes { IfOk result (λ writes. changes_of writes.items ≡ map.entries changes) }
-    ensures takes { IfOk result (λ writes. Takes (blocks_by (places_of writes.items)) space.old space.new [] taken.new) }
+    ensures takes { IfOk result (λ writes. Takes (place_blocks (places_of writes.items)) space.old space.new [] taken.new) }
     ensures count { IfOk result (λ writes. length writes.items ≤ 1024) }
     ensures fault { IfErr result (IsPlaceFault (map.entries changes) space.old space.new taken.new) }
 {

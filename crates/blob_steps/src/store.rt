@@ -22,7 +22,7 @@ ghost use Rattle.store_model.specs.Tuple.{greatest_tuple};
 ghost use Rattle.store_model.specs.Verify.{LeadsTo, Verifies};
 ghost use Rattle.relation.specs.Parts.{encoded_by, owned_by};
 ghost use Rattle.blob_steps.specs.Answers.{model_line};
-ghost use Rattle.blob_steps.specs.Places.{blocks_by, changes_of, places_of};
+ghost use Rattle.blob_steps.specs.Places.{place_blocks, changes_of, places_of};
 ghost use Rattle.blob_steps.specs.Sessions.{ShownOf, show_of};
 ghost use Rattle.blob_steps.specs.Stores.{IsSound, Replied, StoreStands, object_of, objects_with, old_blocks, old_bytes, replaced_bytes, room_line, write_bytes, write_pages};
 ghost use Rattle.blob_steps.specs.Faults.{DamageOf, FailsOn, NamesKey, IsRaisedFault, IsUndamagedFault, ShowsDamageFault};
@@ -234,7 +234,7 @@ impl Store {
         writes: &[Write],
     ) -> Result<u64, IoFault>
         requires pages { self.old.space.pages ≡ data_pages self.old.layout }
-        requires owned { IsPermutation self.old.space.owned (blocks_by (places_of writes.now) ++ owned_by self.old.relation.states) }
+        requires owned { IsPermutation self.old.space.owned (place_blocks (places_of writes.now) ++ owned_by self.old.relation.states) }
         requires bytes { encoded_by self.old.relation.states ≤ 2 ^ 23 * self.old.last }
         requires few { length writes.now ≤ 1024 }
         requires last { self.old.last < 1024 }
@@ -247,7 +247,7 @@ impl Store {
             → SameObjects self.old.relation.states objects
             → AllStand (D.story disk.old).reads self.old.layout objects
             → AllStand (D.story disk.new).reads self.old.layout (objects_with (self.old.last + 1) objects writes.now)) }
-        ensures wrote { OnlyWrites D.Disk (IsOwnedPage self.old.layout (blocks_by (places_of writes.now))) disk.old disk.new }
+        ensures wrote { OnlyWrites D.Disk (IsOwnedPage self.old.layout (place_blocks (places_of writes.now))) disk.old disk.new }
         ensures calls { IsTrue D.tells → OnOk result
             (Took 0 (sum_by write_pages writes.now) 1 (D.calls disk.old) (D.calls disk.new)) }
         ensures sound { OnOk result (IsSound self.new) }

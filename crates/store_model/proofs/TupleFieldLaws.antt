@@ -16,7 +16,7 @@ use Rattle.store_model.specs.Key.{is_key, is_slash}
 use Rattle.store_model.specs.Shape.{greatest_size, held_by, pages_of_extent}
 use Rattle.store_model.specs.State.{AreAligned, AreMarks, Extent, HasExtents, HasTail, IsPrefix, IsState, State, heads_of, marks_of}
 use Rattle.store_model.specs.Tuple.{IsAtFront, IsTuple, extent_spelling, fields_spelling, key_spelling, places_spelling, spelling, state_spelling, tail_spelling}
-use Rattle.store_model.specs.TupleFields.{AreExtentsTold, IsBadTuple, IsExtentTold, content_at, content_fields, extent_fields, is_filled, is_head, is_within, key_fields, places_fields, tail_fields, told_key, told_size, tuple_fields}
+use Rattle.store_model.specs.TupleFields.{AreExtentsTold, IsBadTuple, IsExtentTold, fields_at, content_fields, extent_fields, is_filled, is_head, is_within, key_fields, places_fields, tail_fields, told_key, told_size, tuple_fields}
 use Rattle.store_model.proofs.FieldLaws.{AreBytes, AreGood-append, AreGood-back, AreGood-front, AreGood-none_broken, AreGood-same, IsFirstBroken-back, IsFirstBroken-front, IsFirstBroken-here, IsGood-bytes, IsGood-eight, IsGood-four, TextStands, TextStands-append, TextStands-back, TextStands-bytes, TextStands-eight, TextStands-four, TextStands-front, TextStands-none, TextStands-rest, TextStands-start, take-plus, told_eight, told_four-stands}
 use Rattle.store_model.proofs.ShapeLaws.{held_by-all, held_by-mono}
 use Rattle.store_model.proofs.StateLaws.{slice_get-last, length-bytes_of_state, length-extents_spelling, length-fields_spelling}
@@ -344,9 +344,9 @@ IsFirstBroken-tail stored pages at size place some broken =
     (IsFirstBroken-here stored page [] place broken)
 
 -- where the fields behind the key begin
-pub content_at-key : (stored key text : List ℕ) → AreGood stored (key_fields (told_key stored)) → key ≡ take (told_key stored) (drop 1 stored) → text ≡ key
-    → 1 + length text ≡ content_at stored
-content_at-key stored key text good is same =
+pub fields_at-key : (stored key text : List ℕ) → AreGood stored (key_fields (told_key stored)) → key ≡ take (told_key stored) (drop 1 stored) → text ≡ key
+    → 1 + length text ≡ fields_at stored
+fields_at-key stored key text good is same =
     let long : length text ≡ told_key stored =
     ap length (same ∙ is) ∙ length-take-le (told_key stored) (drop 1 stored) (omega (arith, good.1.0.whole, length-drop 1 stored)) in
     ap (λ (n : ℕ). 1 + n) long
@@ -444,7 +444,7 @@ IsState-told pages stored key at state told has good =
     }
 
 -- Where the fields are good, group by group, the tuple that they tell stands at the front.
-pub IsAtFront-told : (pages : ℕ) (stored key : List ℕ) (at : ℕ) (state : State) → AreBytes stored → at ≡ content_at stored → IsTold stored key at state
+pub IsAtFront-told : (pages : ℕ) (stored key : List ℕ) (at : ℕ) (state : State) → AreBytes stored → at ≡ fields_at stored → IsTold stored key at state
     → HasExtents state.size (length state.extents) → AreAllGood pages stored at state.size (length state.extents) → IsAtFront pages stored key state
 IsAtFront-told pages stored key at state bytes start told has good =
     let is : IsState state = IsState-told pages stored key at state told has good in
@@ -481,12 +481,12 @@ IsAtFront-told pages stored key at state bytes start told has good =
 
 -- the fields of a tuple, group by group
 AreAllGood-fields : (pages : ℕ) (stored : List ℕ) (extents : ℕ) → AreGood stored (tuple_fields pages stored extents)
-    → AreAllGood pages stored (content_at stored) (told_size stored) extents
+    → AreAllGood pages stored (fields_at stored) (told_size stored) extents
 AreAllGood-fields pages stored extents good =
     let key : List Field = key_fields (told_key stored) in
-    let content : List Field = content_fields (content_at stored) (told_size stored) in
-    let heads : List Field = flat_map (extent_fields pages (content_at stored + 76)) (range_with_len 0 extents) in
-    let end : List Field = tail_fields pages (content_at stored + 76 + 36 * extents) (told_size stored) in
+    let content : List Field = content_fields (fields_at stored) (told_size stored) in
+    let heads : List Field = flat_map (extent_fields pages (fields_at stored + 76)) (range_with_len 0 extents) in
+    let end : List Field = tail_fields pages (fields_at stored + 76 + 36 * extents) (told_size stored) in
     let front = AreGood-front stored (key ++ content) (heads ++ end) good in
     let back = AreGood-back stored (key ++ content) (heads ++ end) good in
     record {
@@ -497,12 +497,12 @@ AreAllGood-fields pages stored extents good =
     }
 
 -- Where all the fields of a tuple are good, the one that they tell stands at the front.
-pub IsAtFront-AreGood : (pages : ℕ) (stored key : List ℕ) (state : State) → AreBytes stored → IsTold stored key (content_at stored) state
+pub IsAtFront-AreGood : (pages : ℕ) (stored key : List ℕ) (state : State) → AreBytes stored → IsTold stored key (fields_at stored) state
     → HasExtents state.size (length state.extents) → AreGood stored (tuple_fields pages stored (length state.extents)) → IsAtFront pages stored key state
 IsAtFront-AreGood pages stored key state bytes told has good =
-    let groups : AreAllGood pages stored (content_at stored) state.size (length state.extents) =
+    let groups : AreAllGood pages stored (fields_at stored) state.size (length state.extents) =
     rw told.size (AreAllGood-fields pages stored (length state.extents) good) in
-    IsAtFront-told pages stored key (content_at stored) state bytes refl told has groups
+    IsAtFront-told pages stored key (fields_at stored) state bytes refl told has groups
 
 -- each size has some number of extents, where extents enough hold its full pages
 extents-some : (size most : ℕ) → size / page_bytes ≤ held_by most → (n : ℕ) × HasExtents size n
@@ -525,37 +525,37 @@ extents-told size =
 pub IsBadTuple-key : (pages : ℕ) (stored : List ℕ) (place : ℕ) → IsFirstBroken stored (key_fields (told_key stored)) place → IsBadTuple pages stored place
 IsBadTuple-key pages stored place first =
     let some = extents-told (told_size stored) in
-    let content : List Field = content_fields (content_at stored) (told_size stored) in
+    let content : List Field = content_fields (fields_at stored) (told_size stored) in
     record {
       extents = some.0;
       counted = some.1;
-      first = IsFirstBroken-front stored (key_fields (told_key stored) ++ content) (places_fields pages (content_at stored + 76) (told_size stored) some.0) place
+      first = IsFirstBroken-front stored (key_fields (told_key stored) ++ content) (places_fields pages (fields_at stored + 76) (told_size stored) some.0) place
           (IsFirstBroken-front stored (key_fields (told_key stored)) content place first);
     }
 
 -- no tuple, where a field between the key and the extents is broken
-pub IsBadTuple-content : (pages : ℕ) (stored : List ℕ) (at place : ℕ) → at ≡ content_at stored → AreGood stored (key_fields (told_key stored))
+pub IsBadTuple-content : (pages : ℕ) (stored : List ℕ) (at place : ℕ) → at ≡ fields_at stored → AreGood stored (key_fields (told_key stored))
     → IsFirstBroken stored (content_fields at (told_four stored at)) place → IsBadTuple pages stored place
 IsBadTuple-content pages stored at place start front first =
     let some = extents-told (told_size stored) in
-    let content : List Field = content_fields (content_at stored) (told_size stored) in
+    let content : List Field = content_fields (fields_at stored) (told_size stored) in
     let here : IsFirstBroken stored content place = rw start at first in
     record {
       extents = some.0;
       counted = some.1;
-      first = IsFirstBroken-front stored (key_fields (told_key stored) ++ content) (places_fields pages (content_at stored + 76) (told_size stored) some.0) place
+      first = IsFirstBroken-front stored (key_fields (told_key stored) ++ content) (places_fields pages (fields_at stored + 76) (told_size stored) some.0) place
           (IsFirstBroken-back stored (key_fields (told_key stored)) content place front here);
     }
 
 -- no tuple, where an extent is broken
-pub IsBadTuple-extents : (pages : ℕ) (stored : List ℕ) (at size extents place : ℕ) → at ≡ content_at stored → size ≡ told_four stored at
+pub IsBadTuple-extents : (pages : ℕ) (stored : List ℕ) (at size extents place : ℕ) → at ≡ fields_at stored → size ≡ told_four stored at
     → HasExtents size extents → AreGood stored (key_fields (told_key stored)) → AreGood stored (content_fields at size)
     → IsFirstBroken stored (flat_map (extent_fields pages (at + 76)) (range_with_len 0 extents)) place → IsBadTuple pages stored place
 IsBadTuple-extents pages stored at size extents place start told has front content first =
     let size_is : size ≡ told_size stored = told ∙ ap (told_four stored) start in
-    let fields : List Field = content_fields (content_at stored) (told_size stored) in
-    let heads : List Field = flat_map (extent_fields pages (content_at stored + 76)) (range_with_len 0 extents) in
-    let end : List Field = tail_fields pages (content_at stored + 76 + 36 * extents) (told_size stored) in
+    let fields : List Field = content_fields (fields_at stored) (told_size stored) in
+    let heads : List Field = flat_map (extent_fields pages (fields_at stored + 76)) (range_with_len 0 extents) in
+    let end : List Field = tail_fields pages (fields_at stored + 76 + 36 * extents) (told_size stored) in
     let good : AreGood stored fields = rw (start, size_is) at content in
     let here : IsFirstBroken stored heads place = rw start at first in
     record {
@@ -566,15 +566,15 @@ IsBadTuple-extents pages stored at size extents place start told has front conte
     }
 
 -- no tuple, where the tail is broken
-pub IsBadTuple-tail : (pages : ℕ) (stored : List ℕ) (at size extents place : ℕ) → at ≡ content_at stored → size ≡ told_four stored at
+pub IsBadTuple-tail : (pages : ℕ) (stored : List ℕ) (at size extents place : ℕ) → at ≡ fields_at stored → size ≡ told_four stored at
     → HasExtents size extents → AreGood stored (key_fields (told_key stored)) → AreGood stored (content_fields at size)
     → AreGood stored (flat_map (extent_fields pages (at + 76)) (range_with_len 0 extents))
     → IsFirstBroken stored (tail_fields pages (at + 76 + 36 * extents) size) place → IsBadTuple pages stored place
 IsBadTuple-tail pages stored at size extents place start told has front content places first =
     let size_is : size ≡ told_size stored = told ∙ ap (told_four stored) start in
-    let fields : List Field = content_fields (content_at stored) (told_size stored) in
-    let heads : List Field = flat_map (extent_fields pages (content_at stored + 76)) (range_with_len 0 extents) in
-    let end : List Field = tail_fields pages (content_at stored + 76 + 36 * extents) (told_size stored) in
+    let fields : List Field = content_fields (fields_at stored) (told_size stored) in
+    let heads : List Field = flat_map (extent_fields pages (fields_at stored + 76)) (range_with_len 0 extents) in
+    let end : List Field = tail_fields pages (fields_at stored + 76 + 36 * extents) (told_size stored) in
     let good : AreGood stored fields = rw (start, size_is) at content in
     let before : AreGood stored heads = rw start at places in
     let here : IsFirstBroken stored end place = rw (start, size_is) at first in

@@ -65,19 +65,19 @@ abbrev pub told_key : List ℕ → ℕ
 told_key stored = slice_index stored 0
 
 -- where the fields behind the key begin
-abbrev pub content_at : List ℕ → ℕ
-content_at stored = 1 + told_key stored
+abbrev pub fields_at : List ℕ → ℕ
+fields_at stored = 1 + told_key stored
 
 -- the size that is told
 abbrev pub told_size : List ℕ → ℕ
-told_size stored = told_four stored (content_at stored)
+told_size stored = told_four stored (fields_at stored)
 
 -- the fields of a tuple with so many extents, whose key's length and size are those that these bytes tell
 abbrev pub tuple_fields : ℕ → List ℕ → ℕ → List Field
 tuple_fields pages stored extents =
     key_fields (told_key stored)
-    ++ content_fields (content_at stored) (told_size stored)
-    ++ places_fields pages (content_at stored + stored_fields) (told_size stored) extents
+    ++ content_fields (fields_at stored) (told_size stored)
+    ++ places_fields pages (fields_at stored + stored_fields) (told_size stored) extents
 
 -- the extent that the bytes at an offset tell
 pub record IsExtentTold (stored : List ℕ) (at : ℕ) (extent : Extent) : Type 0 where

@@ -62,8 +62,8 @@ abbrev pub value_of : Store → Transaction → List ℕ → Option (List ℕ)
 value_of store transaction key = changed_content (get transaction.changes key) (content_at store key)
 
 -- The transaction with this number of an untouched key recorded as read; a recorded read is never changed.
-abbrev pub with_read : Option ℕ → Transaction → List ℕ → Transaction
-with_read now transaction key =
+abbrev pub with_number : Option ℕ → Transaction → List ℕ → Transaction
+with_number now transaction key =
     if is_touched transaction key then transaction
     else record { reads = insert transaction.reads key now; changes = transaction.changes }
 
@@ -82,7 +82,7 @@ abbrev pub look_turn : (Option (List ℕ) → AnswerLine) → Store → Transact
 look_turn show store transaction key =
     if is_one_too_many transaction key then record { line = answer.TooMany (most_keys + 1); session = Open transaction }
     else if is_stale (number_at store key) transaction key then record { line = answer.Stale (number_at store key); session = Open transaction }
-    else record { line = show (value_of store transaction key); session = Open (with_read (number_at store key) transaction key) }
+    else record { line = show (value_of store transaction key); session = Open (with_number (number_at store key) transaction key) }
 
 -- a put in an open transaction
 abbrev pub put_turn : Transaction → List ℕ → List ℕ → Turned

@@ -4,11 +4,11 @@ use Rattle.std.proofs.lemmas.Result.{MatchResult-weaker, err_from_is_err_and}
 use Rattle.std.proofs.lemmas.List.{length-map}
 use Rattle.store_model.specs.State.{Extent, HasExtents, IsState, State}
 use Rattle.store_model.specs.Tuple.{tail_spelling}
-use Rattle.store_model.specs.TupleFields.{content_at}
+use Rattle.store_model.specs.TupleFields.{fields_at}
 use Rattle.store_model.proofs.StateLaws.{length-spelling}
 use Rattle.store_model.proofs.StoredLaws.{length-tail_spelling}
 use Rattle.store_model.proofs.FieldLaws.{AreBytes}
-use Rattle.store_model.proofs.TupleFieldLaws.{AreAllGood, IsAtFront-not_bad, IsAtFront-told, IsTailTold, IsTold, IsBadTuple-content, IsBadTuple-extents, IsBadTuple-key, IsBadTuple-tail, content_at-key}
+use Rattle.store_model.proofs.TupleFieldLaws.{AreAllGood, IsAtFront-not_bad, IsAtFront-told, IsTailTold, IsTold, IsBadTuple-content, IsBadTuple-extents, IsBadTuple-key, IsBadTuple-tail, fields_at-key}
 use Rattle.store_model.proofs.TupleLaws.{spelling-unique}
 use Rattle.blob_state.specs.Values.{extent_of, extents_of}
 use Rattle.blob_state.proofs.reader.decode.Goals as goal
@@ -29,7 +29,7 @@ returns-in_err-fields-clause-bad c =
     let bytes : List ℕ = c.args.bytes.now in
     let front = c.in_ok-key.ensures.good in
     let at : ℕ = 1 + length c.text.result.now in
-    let start : at ≡ content_at bytes = content_at-key bytes c.in_ok-key.key c.text.result.now front c.in_ok-key.ensures.text c.text.ensures.text in
+    let start : at ≡ fields_at bytes = fields_at-key bytes c.in_ok-key.key c.text.result.now front c.in_ok-key.ensures.text c.text.ensures.text in
     rw (p.1, p.2) (IsBadTuple-content c.args.pages bytes at _ start front c.in_err-fields.ensures.bad)
 
 pub returns-in_err-fields-clause-none : goal.returns-in_err-fields-clause-none
@@ -43,7 +43,7 @@ returns-in_err-read_extents-clause-bad c =
     let bytes : List ℕ = c.args.bytes.now in
     let front = c.in_ok-key.ensures.good in
     let at : ℕ = 1 + length c.text.result.now in
-    let start : at ≡ content_at bytes = content_at-key bytes c.in_ok-key.key c.text.result.now front c.in_ok-key.ensures.text c.text.ensures.text in
+    let start : at ≡ fields_at bytes = fields_at-key bytes c.in_ok-key.key c.text.result.now front c.in_ok-key.ensures.text c.text.ensures.text in
     rw (p.1, p.2) (IsBadTuple-extents c.args.pages bytes at c.in_ok-fields.fields.size c.in_ok-fields.fields.extents _ start
     c.in_ok-fields.ensures.size c.in_ok-fields.ensures.extents front c.in_ok-fields.ensures.good c.in_err-read_extents.ensures.bad)
 
@@ -58,7 +58,7 @@ returns-in_err-tail-clause-bad c =
     let bytes : List ℕ = c.args.bytes.now in
     let front = c.in_ok-key.ensures.good in
     let at : ℕ = 1 + length c.text.result.now in
-    let start : at ≡ content_at bytes = content_at-key bytes c.in_ok-key.key c.text.result.now front c.in_ok-key.ensures.text c.text.ensures.text in
+    let start : at ≡ fields_at bytes = fields_at-key bytes c.in_ok-key.key c.text.result.now front c.in_ok-key.ensures.text c.text.ensures.text in
     let count : c.len.result ≡ c.in_ok-fields.fields.extents = c.len.ensures.value ∙ c.in_ok-read_extents.ensures.number in
     rw (p.1, p.2) (IsBadTuple-tail c.args.pages bytes at c.in_ok-fields.fields.size c.in_ok-fields.fields.extents _ start
     c.in_ok-fields.ensures.size c.in_ok-fields.ensures.extents front c.in_ok-fields.ensures.good c.in_ok-read_extents.ensures.good
@@ -75,7 +75,7 @@ returns-clause-front c =
     let bytes : List ℕ = c.args.bytes.now in
     let front = c.in_ok-key.ensures.good in
     let at : ℕ = 1 + length c.text.result.now in
-    let start : at ≡ content_at bytes = content_at-key bytes c.in_ok-key.key c.text.result.now front c.in_ok-key.ensures.text c.text.ensures.text in
+    let start : at ≡ fields_at bytes = fields_at-key bytes c.in_ok-key.key c.text.result.now front c.in_ok-key.ensures.text c.text.ensures.text in
     let fields = c.in_ok-fields.fields in
     let items = c.read_extents.new.extents.items in
     let extents : List Extent = extents_of items in

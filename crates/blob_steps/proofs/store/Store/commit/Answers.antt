@@ -7,7 +7,7 @@ use Rattle.store_model.specs.Disk.{Took}
 use Rattle.store_model.specs.Space.{IsOwnedPage}
 use Rattle.relation.specs.Parts.{encoded_by, owned_by}
 use Rattle.blob_steps.specs.Answers.{model_line}
-use Rattle.blob_steps.specs.Places.{blocks_by, places_of}
+use Rattle.blob_steps.specs.Places.{place_blocks, places_of}
 use Rattle.store_model.specs.Standing.{AllStand, SameObjects}
 use Rattle.blob_steps.specs.Stores.{objects_with, replaced_bytes, room_line, write_bytes, write_pages}
 use Rattle.blob_steps.specs.declared.write.Write.{Write}
@@ -43,14 +43,14 @@ returns-in-Err-NoSpace-clause-replied g c = λ store transaction changes_is stan
 pub give_back_all-requires-in-Some-clause-owned : goal.give_back_all-requires-in-Some-clause-owned
 give_back_all-requires-in-Some-clause-owned g c = (
   c.args.self.now.space.owned,
-  listed-owned (blocks_by (places_of c.in-Ok.writes.items)) c.take_places.new.taken c.args.self.now.space
+  listed-owned (place_blocks (places_of c.in-Ok.writes.items)) c.take_places.new.taken c.args.self.now.space
       c.take_places.new.space
       c.in-Ok.ensures.takes,
 )
 
 pub returns-in-Some-clause-sound : goal.returns-in-Some-clause-sound
 returns-in-Some-clause-sound g c = record {
-  owned = given-back (blocks_by (places_of c.in-Ok.writes.items)) c.take_places.new.taken
+  owned = given-back (place_blocks (places_of c.in-Ok.writes.items)) c.take_places.new.taken
       c.give_back_all-in-Some.new.space.owned
       (owned_by c.args.self.now.relation.states) c.args.self.now.space c.take_places.new.space c.in-Ok.ensures.takes
       (λ rest moves. c.give_back_all-in-Some.ensures.owned rest moves) c.requires.sound.owned;
@@ -97,7 +97,7 @@ returns-clause-replied g c = λ store transaction changes_is stands.
     same (done.objects store.objects stands.objects))
     (λ tells all. subst (λ (ws : List Write). AllStand (disk.story c.write_all.new.disk).reads layout
     (objects_with number store.objects ws)) same (done.stand tells store.objects stands.objects all))
-    (subst (λ (ws : List Write). OnlyWrites disk (IsOwnedPage layout (blocks_by (places_of ws))) c.args.disk.now
+    (subst (λ (ws : List Write). OnlyWrites disk (IsOwnedPage layout (place_blocks (places_of ws))) c.args.disk.now
     c.write_all.new.disk) same c.write_all.ensures.wrote)
     (λ tells. subst (λ (ws : List Write). Took 0 (sum_by write_pages ws) 1 (disk.calls c.args.disk.now)
     (disk.calls c.write_all.new.disk)) same (done.calls tells))

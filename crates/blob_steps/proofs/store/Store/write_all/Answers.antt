@@ -4,7 +4,7 @@ use Rattle.store_model.specs.Disk.{Image}
 use Rattle.store_model.specs.Space.{IsOwnedPage}
 use Rattle.store_model.specs.Standing.{AllStand}
 use Rattle.relation.specs.Parts.{owned_by}
-use Rattle.blob_steps.specs.Places.{blocks_by, places_of}
+use Rattle.blob_steps.specs.Places.{place_blocks, places_of}
 use Rattle.blob_steps.specs.Stores.{objects_with}
 use Rattle.blob_steps.proofs.Writing.{OnlyWrites-next, Writing-next, Writing-none, left-among, next-apart, next-is, next-within, objects-done, took-all, took-next}
 use Rattle.blob_steps.proofs.store.Store.write_all.Goals as goal
@@ -16,7 +16,7 @@ written-init g c = (
       c.args.writes.now
       c.requires.owned c.new-replaced.ensures c.in_ok-reserve.ensures.states,
   search rules,
-  OnlyWrites-none g.D.Disk (IsOwnedPage c.args.self.now.layout (blocks_by (places_of c.args.writes.now))) c.args.disk.now,
+  OnlyWrites-none g.D.Disk (IsOwnedPage c.args.self.now.layout (place_blocks (places_of c.args.writes.now))) c.args.disk.now,
   λ tells. record { reads = omega arith; writes = omega arith; syncs = omega arith },
 )
 
@@ -86,13 +86,13 @@ returns-in_err-write-clause-wrote g c =
 
 pub returns-in_err-sync-clause-wrote : goal.returns-in_err-sync-clause-wrote
 returns-in_err-sync-clause-wrote g c =
-    OnlyWrites-reads g.D.Disk (IsOwnedPage c.args.self.now.layout (blocks_by (places_of c.args.writes.now))) c.args.disk.now
+    OnlyWrites-reads g.D.Disk (IsOwnedPage c.args.self.now.layout (place_blocks (places_of c.args.writes.now))) c.args.disk.now
     c.written.disk c.sync.new.self c.written.invariant.2
     (record { keeps = c.sync.ensures.keeps; stayed = c.sync.ensures.images })
 
 pub returns-clause-wrote : goal.returns-clause-wrote
 returns-clause-wrote g c =
-    OnlyWrites-reads g.D.Disk (IsOwnedPage c.args.self.now.layout (blocks_by (places_of c.args.writes.now))) c.args.disk.now
+    OnlyWrites-reads g.D.Disk (IsOwnedPage c.args.self.now.layout (place_blocks (places_of c.args.writes.now))) c.args.disk.now
     c.written.disk c.sync.new.self c.written.invariant.2
     (record { keeps = c.sync.ensures.keeps; stayed = c.sync.ensures.images })
 
