@@ -22,7 +22,7 @@ use Rattle.blob_steps.specs.declared.line.LineFault.TheVariants as fault
 use Rattle.blob_steps.specs.Endings.{ending_of}
 use Rattle.blob_steps.specs.Going.{BadLine, EndsPrinting, EndsReading, EndsStep, Going, PlaysOn, SomeLine, TakesStep, after_lines, playing, reading_ending}
 use Rattle.blob_steps.specs.Lines.{LineTaken, NoLine}
-use Rattle.blob_steps.specs.Runs.{Closed, Ended, IsUndamaged, KeepsEnds, PagesAre, ShowsDamage, TookFront}
+use Rattle.blob_steps.specs.Runs.{Closed, Ended, IsUndamaged, KeepsEnds, MayCut, OnPlayed, PagesAre, Ran, ShowsDamage, TookFront}
 use Rattle.blob_steps.specs.Steps.{CameTo, WorldStands}
 use Rattle.blob_steps.specs.Stores.{Did}
 use Rattle.store_model.specs.Closing.{closing_text}
@@ -219,29 +219,31 @@ module _ {D : Type 0} (g : Ghosts D) (start : Store) (mine later : World) (numbe
       subst (λ (l : Layout). (more : List PlayedLine) × ((play l start script).lines ≡ lines_with ++ more)) (sym is)
       (PlaysOn-front later.store.layout start lines_with (number + 1) (step_play later.store.layout going.world step).world first rest plays-later script known)
 
+  -- a run that ends with this status in the printing of the step's answer
+  cut-short : (one : Status) (more : Option (List ℕ)) (gone : ℕ) (frugal : Bool) → Appends taken more (take gone text) → MayCut one frugal
+      → (IsTrue g.tells → OnPlayed one (PagesAre g mine.store.layout start lines_with was newer))
+      → (IsTrue g.tells → OnPlayed one (Spent lines_with (g.calls was) (g.calls newer)))
+      → ((script : List ℕ) → first ≡ Some script → Ran one lines_with (play mine.store.layout start script))
+      → ShowsDamage one (store_behind start lines_with).objects → (IsTrue g.tells → IsUndamaged one)
+      → Ended g mine.store.layout start frugal first old more was newer one
+  cut-short one more gone frugal took may pages counts ran damage whole = record {
+    lines = lines_with;
+    ran = ran;
+    grew = (going.grew.0 ++ take gone text, Appends-trans old taken more going.grew.0 (take gone text) going.grew.1 took);
+    took = λ told. inr (may, TookFront-cut more gone told took);
+    pages = pages;
+    counts = counts;
+    damage = damage;
+    whole = whole;
+  }
+
   -- the printing of the step's answer failed
   pub Ended-printing : (one : Status) (more : Option (List ℕ)) (gone : ℕ) (frugal : Bool) (before since : ℕ) → Appends taken more (take gone text)
       → EndsPrinting one frugal before since → Ended g mine.store.layout start frugal first old more was newer one
-  Ended-printing status.WriteFault more gone frugal before since took ends = record {
-    lines = lines_with;
-    ran = lines-front mine.store.layout (sym same);
-    grew = (going.grew.0 ++ take gone text, Appends-trans old taken more going.grew.0 (take gone text) going.grew.1 took);
-    took = λ told. inr (tt, TookFront-cut more gone told took);
-    pages = λ told. tt;
-    counts = λ told. tt;
-    damage = tt;
-    whole = λ told. tt;
-  }
-  Ended-printing status.OutOfMemory more gone frugal before since took ends = record {
-    lines = lines_with;
-    ran = lines-front mine.store.layout (sym same);
-    grew = (going.grew.0 ++ take gone text, Appends-trans old taken more going.grew.0 (take gone text) going.grew.1 took);
-    took = λ told. inr (ends, TookFront-cut more gone told took);
-    pages = λ told. tt;
-    counts = λ told. tt;
-    damage = tt;
-    whole = λ told. tt;
-  }
+  Ended-printing status.WriteFault more gone frugal before since took ends = cut-short status.WriteFault more gone frugal took tt (λ told. tt) (λ told. tt)
+      (lines-front mine.store.layout (sym same)) tt (λ told. tt)
+  Ended-printing status.OutOfMemory more gone frugal before since took ends = cut-short status.OutOfMemory more gone frugal took ends (λ told. tt) (λ told. tt)
+      (lines-front mine.store.layout (sym same)) tt (λ told. tt)
   Ended-printing (status.NotBuilt line) more gone frugal before since took ends = absurd ends
   Ended-printing status.ReadFault more gone frugal before since took ends = absurd ends
   Ended-printing status.Done more gone frugal before since took ends = absurd ends
@@ -255,6 +257,23 @@ module _ {D : Type 0} (g : Ghosts D) (start : Store) (mine : World) (number : �
     (going : Going g start mine number first left old taken was now) where
   lines-before : (script : List ℕ) → first ≡ Some script → (rest : List PlayedLine) × ((play mine.store.layout start script).lines ≡ going.lines ++ rest)
   lines-before = PlaysOn-front mine.store.layout start going.lines number going.world first left going.plays_on
+
+  -- a run that ends with this status where it is
+  ended-here : (one : Status) (newer : D) (frugal : Bool) → (IsTrue g.tells → OnPlayed one (PagesAre g mine.store.layout start going.lines was newer))
+      → (IsTrue g.tells → OnPlayed one (Spent going.lines (g.calls was) (g.calls newer)))
+      → ((script : List ℕ) → first ≡ Some script → Ran one going.lines (play mine.store.layout start script))
+      → ShowsDamage one (store_behind start going.lines).objects → (IsTrue g.tells → IsUndamaged one)
+      → Ended g mine.store.layout start frugal first old taken was newer one
+  ended-here one newer frugal pages counts ran damage whole = record {
+    lines = going.lines;
+    ran = ran;
+    grew = going.grew;
+    took = λ told. inl (going.took told);
+    pages = pages;
+    counts = counts;
+    damage = damage;
+    whole = whole;
+  }
 
   pub Ended-over : (frugal : Bool) → NoLine left → Ended g mine.store.layout start frugal first old taken was now status.Done
   Ended-over frugal none = record {
@@ -292,26 +311,8 @@ module _ {D : Type 0} (g : Ghosts D) (start : Store) (mine : World) (number : �
       → Ended g mine.store.layout start frugal first old taken was now one
   Ended-reading (status.NotBuilt line) frugal before since ends =
       subst (λ (n : ℕ). Ended g mine.store.layout start frugal first old taken was now (status.NotBuilt n)) (sym ends.0) (Ended-bad frugal ends.1)
-  Ended-reading status.ReadFault frugal before since ends = record {
-    lines = going.lines;
-    ran = lines-before;
-    grew = going.grew;
-    took = λ told. inl (going.took told);
-    pages = λ told. tt;
-    counts = λ told. tt;
-    damage = tt;
-    whole = λ told. tt;
-  }
-  Ended-reading status.OutOfMemory frugal before since ends = record {
-    lines = going.lines;
-    ran = lines-before;
-    grew = going.grew;
-    took = λ told. inl (going.took told);
-    pages = λ told. tt;
-    counts = λ told. tt;
-    damage = tt;
-    whole = λ told. tt;
-  }
+  Ended-reading status.ReadFault frugal before since ends = ended-here status.ReadFault now frugal (λ told. tt) (λ told. tt) lines-before tt (λ told. tt)
+  Ended-reading status.OutOfMemory frugal before since ends = ended-here status.OutOfMemory now frugal (λ told. tt) (λ told. tt) lines-before tt (λ told. tt)
   Ended-reading status.Done frugal before since ends = absurd ends
   Ended-reading status.WriteFault frugal before since ends = absurd ends
   Ended-reading status.DiskFault frugal before since ends = absurd ends
@@ -322,26 +323,8 @@ module _ {D : Type 0} (g : Ghosts D) (start : Store) (mine : World) (number : �
   -- a step had no answer
   pub Ended-step : (one : Status) (newer : D) (frugal : Bool) (before since : ℕ) → EndsStep one before since → ShowsDamage one going.world.store.objects
       → (IsTrue g.tells → IsUndamaged one) → Ended g mine.store.layout start frugal first old taken was newer one
-  Ended-step status.DiskFault newer frugal before since ends shows undamaged = record {
-    lines = going.lines;
-    ran = lines-before;
-    grew = going.grew;
-    took = λ told. inl (going.took told);
-    pages = λ told. tt;
-    counts = λ told. tt;
-    damage = tt;
-    whole = λ told. tt;
-  }
-  Ended-step status.OutOfMemory newer frugal before since ends shows undamaged = record {
-    lines = going.lines;
-    ran = lines-before;
-    grew = going.grew;
-    took = λ told. inl (going.took told);
-    pages = λ told. tt;
-    counts = λ told. tt;
-    damage = tt;
-    whole = λ told. tt;
-  }
+  Ended-step status.DiskFault newer frugal before since ends shows undamaged = ended-here status.DiskFault newer frugal (λ told. tt) (λ told. tt) lines-before tt (λ told. tt)
+  Ended-step status.OutOfMemory newer frugal before since ends shows undamaged = ended-here status.OutOfMemory newer frugal (λ told. tt) (λ told. tt) lines-before tt (λ told. tt)
   Ended-step (status.Damaged key link want got) newer frugal before since ends shows undamaged = record {
     lines = going.lines;
     ran = lines-before;
