@@ -1,2 +1,3 @@
 pub mod KeyTexts
 pub mod FaultLaws
+pub mod KeyLists

@@ -1,2 +1,3 @@
 pub mod Faults
 pub use Rattle.store_model.specs.Key
+pub mod Sorted

@@ -3,10 +3,12 @@
 
 mod faults;
 mod key;
+mod key_list;
 mod lists;
 mod page;
 
 pub use faults::{IoFault, OutOfMemory, StoreRefusal};
 pub use key::{BadKey, Key};
-pub use lists::{Bytes, Bytes64, Listed, Owned, Word};
+pub use key_list::KeyList;
+pub use lists::{Bytes, Bytes64, Keys, Listed, Names, Owned, Word};
 pub use page::PAGE_BYTES;

@@ -1,8 +1,9 @@
 // The list types: a vector that contracts see as a list.
 
 ghost use Rattle.std.specs.Prelude.{◌≡◌, ◌<◌, ◌==◌, List, [], ◌∷◌, ◌++◌, length, slice_get, IfOk, OnOk, OnErr};
+ghost use Rattle.hex.specs.Hex.{encode_lower};
 
-use crate::OutOfMemory;
+use crate::{Key, OutOfMemory};
 use std::alloc::Global;
 use std::marker::Model;
 
@@ -28,6 +29,12 @@ pub type Bytes = Listed<u8>;
 
 /// A word of a command line.
 pub type Word = Bytes;
+
+/// Keys, as an answer lists them.
+pub type Keys = Listed<Key>;
+
+/// Names without their relation, or relations, as an answer lists them.
+pub type Names = Listed<Bytes>;
 
 /// Numbers of 64 bits.
 pub type Bytes64 = Listed<u64>;
@@ -94,6 +101,23 @@ impl<T> Listed<T> {
         Ok(())
     }
 
+    /// Makes room for so many more elements where there is less, and then for no others. No element changes.
+    pub fn reserve(&mut self, alloc: Global, more: usize) -> Result<(), OutOfMemory>
+        ensures { self.new ≡ self.old }
+    {
+        let _ = alloc;
+        self.items.reserve_exact(more)?;
+        Ok(())
+    }
+
+    /// Takes the first element out; those behind it move up.
+    pub fn remove_first(&mut self) -> T
+        requires { 0 < length self.old }
+        ensures { self.old ≡ result ∷ self.new }
+    {
+        self.items.remove(0)
+    }
+
     /// The elements.
     pub fn as_slice(&self) -> &[T]
         ensures { result.now ≡ self.now }
@@ -128,6 +152,21 @@ impl Listed<u8> {
     {
         let _ = alloc;
         self.items.extend_from_slice(more)?;
+        Ok(())
+    }
+
+    /// Adds two lower case hexadecimal digits for each of these bytes at the end. The digits are written where they stand.
+    pub fn append_hex(&mut self, alloc: Global, bytes: &[u8]) -> Result<(), OutOfMemory>
+        ensures ok { OnOk result (self.new ≡ self.old ++ encode_lower bytes.now) }
+        ensures err { OnErr result (self.new ≡ self.old) }
+    {
+        let _ = alloc;
+        let begin = self.items.len();
+        let count = bytes.len().checked_mul(2).ok_or(OutOfMemory)?;
+        let end = begin.checked_add(count).ok_or(OutOfMemory)?;
+        self.items.resize(end, b'0')?;
+        let (_, digits) = self.items.as_mut_slice().split_at_mut(begin);
+        let _ = hex::encode_to_slice(bytes, digits);
         Ok(())
     }
 }

@@ -1,5 +1,5 @@
--- Numbers that words spell, and words that are cut at a colon.
-use Rattle.std.proofs.Common.{◌≡◌, ℕ, ◌+◌, ◌^◌, ◌<◌, ◌≤◌, ◌==◌, inl, inr, List, [], ◌∷◌, length, get_or, take, drop, Option, Some, None, option_map, option_and_then, bytes_eq, decimal, nat_lt, refl, sym, ◌∙◌, subst, arith}
+-- Numbers that words spell, words that are cut at a colon, and words that are no action.
+use Rattle.std.proofs.Common.{◌≡◌, ℕ, ◌+◌, ◌^◌, ◌<◌, ◌≤◌, ◌==◌, inl, inr, List, [], ◌∷◌, length, get_or, take, drop, Option, Some, None, option_map, option_and_then, bytes_eq, decimal, map, Bor, nat_lt, refl, sym, ◌∙◌, subst, arith}
 use Rattle.std.specs.List.{slice_split, position, position_or_len, before_first, after_first}
 use Rattle.std.specs.Str.Parse.{digits_value, AllDigits}
 use Rattle.std.proofs.lemmas.Bool.{cases_lt, cond_both, eqb-true, le-ltb, lt-ltb, ltb-true}
@@ -9,7 +9,7 @@ use Rattle.std.proofs.lemmas.List.Splits.{length-slice_split, slice_split_first,
 use Rattle.std.proofs.lemmas.List.Sums.{fails_before_first, passes_at_first}
 use Rattle.std.proofs.lemmas.Slice.Eq.{bytes_eq-Decides}
 use Rattle.std.proofs.lemmas.Str.Parse.{IsNumeralModel, numerals_by_value, tells_digits, not_in_digits}
-use Rattle.store_model.specs.Script.{number_below, made_bytes, made_content}
+use Rattle.store_model.specs.Script.{action_of, number_below, made_bytes, made_content}
 
 -- the number below the bound that a word spells
 pub number_below_some : (bound n : ℕ) (word : List ℕ) → n < bound → bound ≤ 2 ^ 32 → word ≡ decimal n → Some n ≡ number_below bound word
@@ -84,3 +84,12 @@ split_uncut text at = elim (cases_lt (position_or_len (λ byte. byte == 58) text
 -- a made content has as many bytes as are asked for
 pub length-made_bytes : (count first : ℕ) → length (made_bytes count first) ≡ count
 length-made_bytes count first = length-map-range_with_len _ 0 count
+
+-- more than four words are no action
+pub no_action_more : (words : List (Bor (List ℕ))) → 5 ≤ length words → None ≡ action_of (map {A = Bor (List ℕ)} {B = List ℕ} (λ word. word.now) words)
+no_action_more [] many = absurd (omega arith)
+no_action_more (a ∷ []) many = absurd (omega arith)
+no_action_more (a ∷ b ∷ []) many = absurd (omega arith)
+no_action_more (a ∷ b ∷ c ∷ []) many = absurd (omega arith)
+no_action_more (a ∷ b ∷ c ∷ d ∷ []) many = absurd (omega arith)
+no_action_more (a ∷ b ∷ c ∷ d ∷ e ∷ words) many = refl

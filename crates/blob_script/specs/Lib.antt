@@ -1,1 +1,9 @@
 pub mod Contents
+pub mod Words
+pub mod Answers
+pub mod Endings
+pub use Rattle.store_model.specs.Shape
+pub use Rattle.store_model.specs.Form
+pub use Rattle.store_model.specs.Script
+pub use Rattle.store_model.specs.Answer
+pub use Rattle.store_model.specs.Closing

@@ -3,10 +3,11 @@
 ghost use Rattle.std.specs.Prelude.{◌≡◌, ◌==◌, ◌≤◌, [], ◌∷◌, length, option_map, IfNone, IfOk, IfSome};
 ghost use Rattle.std.specs.List.{position, slice_split};
 ghost use Rattle.hex.specs.Hex.{decode_of};
-ghost use Rattle.store_model.specs.Script.{decoded, made_bytes, made_content, number_below, spelled_content};
+ghost use Rattle.store_model.specs.Script.{decoded, made_bytes, made_content, spelled_content};
 ghost use Rattle.store_model.specs.Shape.{greatest_size};
 ghost use Rattle.blob_script.specs.Contents.{content_bytes};
 
+use crate::number::byte_of;
 use crate::number_of;
 use blob_base::{Bytes, OutOfMemory};
 use hex::FromHexError;
@@ -98,13 +99,6 @@ fn read_made(numbers: &[u8]) -> Option<Content>
         len: u64::from(len),
         first,
     })
-}
-
-// The number that a word spells in decimal, without leading zeros, where it spells one below 256.
-fn byte_of(word: &[u8]) -> Option<u8>
-    ensures { result ≡ number_below 256 word.now }
-{
-    u8::try_from(number_of(word)?).ok()
 }
 
 // The bytes of a made content.

@@ -1,8 +1,19 @@
-//! Scripts: the numbers and the contents that their words spell.
+//! The words of the program: command lines, the lines of scripts, their answers, and how a run ended.
 #![tactic(auto)]
 
+mod action;
+mod answer;
 mod content;
+mod form;
 mod number;
+mod status;
+mod step;
+mod word;
 
+pub use action::Action;
+pub use answer::{Answer, AnswerLine};
 pub use content::Content;
+pub use form::Form;
 pub use number::number_of;
+pub use status::Status;
+pub use step::{Step, StepFault};

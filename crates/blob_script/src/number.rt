@@ -23,3 +23,19 @@ pub fn number_of(word: &[u8]) -> Option<u32>
         None
     }
 }
+
+// The number that a word spells in decimal, without leading zeros, where it spells one below the bound.
+pub(crate) fn number_below(bound: u32, word: &[u8]) -> Option<u32>
+    ensures value { result ≡ number_below bound word.now }
+    ensures below { IfSome result (λ n. n < bound) }
+{
+    let number = number_of(word)?;
+    if number < bound { Some(number) } else { None }
+}
+
+// Such a number below 256.
+pub(crate) fn byte_of(word: &[u8]) -> Option<u8>
+    ensures { result ≡ number_below 256 word.now }
+{
+    Some(number_below(256, word)? as u8)
+}

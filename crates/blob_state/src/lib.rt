@@ -13,4 +13,4 @@ pub use reader::{BadTuple, Tuple, decode};
 pub use state::{BlobState, MAX_NUMBER};
 pub use stored::{MAX_TUPLE_BYTES, stored_bytes};
 pub use tuple::{encode, encode_into};
-pub use values::{DraftParts, Extent, StateParts};
+pub use values::{DraftParts, Extent, Print, StateParts};

@@ -26,6 +26,13 @@ impl Default for Extent {
     }
 }
 
+/// What is told of a content in its place: how many bytes it has, and its digest.
+#[derive(Clone, Copy, Debug, PartialEq, Eq)]
+pub struct Print {
+    pub size: u64,
+    pub digest: Digest,
+}
+
 /// What a state is made of.
 #[derive(Drop)]
 pub struct StateParts {

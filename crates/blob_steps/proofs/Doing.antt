@@ -3,7 +3,7 @@ use Rattle.std.proofs.Common.{IsTrue, [], sym, subst, arith}
 use Rattle.std.specs.FinMap.{FinMap}
 use Rattle.disk_model.specs.Disks.{OnlyReads}
 use Rattle.disk_model.specs.declared.disk.Disk.{Ghosts}
-use Rattle.store_model.specs.Cost.{Reads}
+use Rattle.store_model.specs.OneSession.Cost.{Reads}
 use Rattle.store_model.specs.Disk.{Image}
 use Rattle.store_model.specs.Key.{key_order}
 use Rattle.store_model.specs.Layout.{Layout}

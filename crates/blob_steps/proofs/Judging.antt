@@ -11,14 +11,15 @@ use Rattle.std.specs.List.Sorted.{IsPermutation}
 use Rattle.std.specs.Ordering.{is_lt}
 use Rattle.std.specs.FinMap.{FinMap, entries, entries_sorted, get, get-entries, insert}
 use Rattle.std.specs.FinMap.Entries.{below_all, is_sorted}
-use Rattle.store_model.specs.Answer as answer
-use Rattle.store_model.specs.Answer.{AnswerLine}
-use Rattle.store_model.specs.Cost.{content_pages}
+use Rattle.store_model.specs.OneSession.Answer as answer
+use Rattle.store_model.specs.OneSession.Answer.{AnswerLine}
+use Rattle.store_model.specs.OneSession.Cost.{content_pages}
 use Rattle.store_model.specs.Disk.{Took}
-use Rattle.store_model.specs.Group.{Committed, commits_of, judge_in, reply_line, states_bytes, store_after}
+use Rattle.store_model.specs.OneSession.Group.{Committed, commits_of, judge_in, reply_line, states_bytes, store_after}
 use Rattle.store_model.specs.Holds.{pages_from, place_of}
 use Rattle.store_model.specs.Images.{Wrote}
-use Rattle.store_model.specs.Judgement.{Commits, Judgement, NoRoom, NoSpace, judge_places, judge_room, object_bytes, owned_blocks, places_for, stored_bytes}
+use Rattle.store_model.specs.OneSession.Judgement.{Commits, Judgement, NoRoom, NoSpace, judge_places, judge_room, owned_blocks, places_for, stored_bytes}
+use Rattle.store_model.specs.Placing.{object_bytes}
 use Rattle.store_model.specs.Key.{key_order}
 use Rattle.store_model.specs.Layout.{Layout, data_pages}
 use Rattle.store_model.specs.Standing.{AllStand, BothStand, SameObjects}
@@ -26,10 +27,10 @@ use Rattle.store_model.specs.Space.{Block, IsOwnedPage, blocks_of}
 use Rattle.store_model.specs.State.{IsState, State}
 use Rattle.store_model.specs.Store as model
 use Rattle.store_model.specs.Store.{Object, Placement}
-use Rattle.store_model.specs.Transaction.{Change, Transaction, apply, content_of, with_change}
+use Rattle.store_model.specs.OneSession.Transaction.{Change, Transaction, apply, content_of, with_change}
 use Rattle.store_model.specs.Tuple.{spelling}
 use Rattle.store_model.proofs.EntryLaws.{entries-alike, part_of, sum-inserts}
-use Rattle.store_model.proofs.OrderLaws.{places_for-permutation}
+use Rattle.store_model.proofs.OneSessionLaws.{places_for-permutation}
 use Rattle.store_model.proofs.SortedLaws.{find-at}
 use Rattle.store_model.proofs.StoredLaws.{length-stored}
 use Rattle.extent_alloc.specs.Parts.{Parts}

@@ -23,7 +23,7 @@ use Rattle.store_model.proofs.StoredLaws.{length-stored}
 use Rattle.store_model.proofs.HeldLaws.{IsPoured-page, ObjectStands-poured}
 use Rattle.store_model.proofs.PlaceLaws.{owners-append}
 use Rattle.store_model.proofs.SortedLaws.{keys_total}
-use Rattle.store_model.specs.Judgement.{object_bytes}
+use Rattle.store_model.specs.Placing.{object_bytes}
 use Rattle.store_model.specs.Tuple.{greatest_tuple, spelling}
 use Rattle.relation.specs.Parts.{encoded_by, owned_by}
 use Rattle.disk_model.specs.Disks.{OnlyWrites}

@@ -26,15 +26,16 @@ use Rattle.blob_steps.specs.Runs.{Closed, Ended, IsUndamaged, KeepsEnds, MayCut,
 use Rattle.blob_steps.specs.Steps.{CameTo, WorldStands}
 use Rattle.blob_steps.specs.Stores.{Did}
 use Rattle.store_model.specs.Closing.{closing_text}
-use Rattle.store_model.specs.Cost.{Spent, content_pages, syncs_of}
+use Rattle.store_model.specs.OneSession.Cost.{Spent, content_pages, syncs_of}
 use Rattle.store_model.specs.Disk.{Calls}
-use Rattle.store_model.specs.Group as model
-use Rattle.store_model.specs.Group.{Committed, Outcome, taken_blocks, world_over}
+use Rattle.store_model.specs.OneSession.Group as model
+use Rattle.store_model.specs.OneSession.Group.{Committed, Outcome, taken_blocks, world_over}
 use Rattle.store_model.specs.Images.{Wrote}
 use Rattle.store_model.specs.Key.{key_order}
 use Rattle.store_model.specs.Layout.{Layout}
-use Rattle.store_model.specs.Play.{Played, PlayedLine, commits_in, line_of, play, play_steps, step_play, store_behind, taken_in, text_of}
-use Rattle.store_model.specs.Script.{Step, Script, AtInputEnd, AtLine, lines_of, step_at, steps_from, step_then}
+use Rattle.store_model.specs.OneSession.Play.{Played, PlayedLine, commits_in, line_of, play, play_steps, step_play, store_behind, taken_in, text_of}
+use Rattle.store_model.specs.OneSession.Script.{Step, Script, AtInputEnd, AtLine, step_at, steps_from, step_then}
+use Rattle.store_model.specs.Script.{lines_of}
 use Rattle.store_model.specs.Space.{Block, IsOwnedPage, blocks_of}
 use Rattle.store_model.specs.Standing.{AllStand}
 use Rattle.store_model.specs.Store.{Object, Store, empty_store}

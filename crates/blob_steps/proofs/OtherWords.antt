@@ -1,6 +1,6 @@
 -- Words that are no action.
 use Rattle.std.proofs.Common.{◌≡◌, ℕ, ◌<◌, ◌≤◌, false, List, [], ◌∷◌, length, get_or, map, None, codes, bytes_eq, Bor, refl, arith}
-use Rattle.store_model.specs.Script.{action_of}
+use Rattle.store_model.specs.OneSession.Script.{action_of}
 
 -- the texts of words
 abbrev pub texts : List (Bor (List ℕ)) → List (List ℕ)

@@ -4,12 +4,12 @@ use Rattle.std.specs.List.Sorted.{IsPermutation}
 use Rattle.std.proofs.lemmas.List.{append-nil, map-append}
 use Rattle.std.proofs.lemmas.Grind.{flat_map-append}
 use Rattle.extent_alloc.specs.Parts.{Parts}
-use Rattle.store_model.specs.Judgement.{place_then, placed_then, places_for}
+use Rattle.store_model.specs.OneSession.Judgement.{place_then, placed_then, places_for}
 use Rattle.store_model.specs.Places.{extent_count, first_of, place_with, taken, tiers_for}
 use Rattle.store_model.specs.Space.{Block, blocks_of, extent_blocks, tail_blocks}
 use Rattle.store_model.specs.Store.{Placement}
-use Rattle.store_model.specs.Transaction.{Change, content_of}
-use Rattle.store_model.proofs.OrderLaws.{places_for-permutation}
+use Rattle.store_model.specs.OneSession.Transaction.{Change, content_of}
+use Rattle.store_model.proofs.OneSessionLaws.{places_for-permutation}
 use Rattle.blob_steps.specs.Fitting.{Fits}
 use Rattle.blob_steps.specs.Places.{Fails, IsPlaceFault, IsTakeFault, Takes, TakesHeads, place_blocks, changes_of, heads_by, places_of, tail_list}
 use Rattle.blob_steps.specs.declared.places.TakeFault.TheVariants as take_fault

@@ -10,18 +10,19 @@ use Rattle.store_model.specs.Key.{key_order}
 use Rattle.disk_model.specs.Disks.{OnlyReads}
 use Rattle.disk_model.specs.declared.disk.Disk.{Ghosts}
 use Rattle.disk_model.proofs.DiskLaws.{Keeps-none, OnlyReads-none}
-use Rattle.store_model.specs.Cost.{Reads}
-use Rattle.store_model.specs.Judgement.{object_bytes, stored_bytes}
+use Rattle.store_model.specs.OneSession.Cost.{Reads}
+use Rattle.store_model.specs.Placing.{object_bytes}
+use Rattle.store_model.specs.OneSession.Judgement.{stored_bytes}
 use Rattle.store_model.specs.Layout.{Layout}
 use Rattle.store_model.specs.Standing.{AllStand, BothStand, SameObjects}
 use Rattle.store_model.specs.Store.{Store, Object, empty_store, number_at}
-use Rattle.store_model.specs.Transaction.{Transaction, is_touched}
-use Rattle.store_model.specs.Transaction as tr
-use Rattle.store_model.specs.Turn.{Session, Free, Open, Waiting, Action, Begin, Get, Stat, Put, Commit, Turned, turn, look_turn, shown, measured, with_number, is_one_too_many, is_stale}
-use Rattle.store_model.specs.Answer.{AnswerLine, answer_text, idle_text}
-use Rattle.store_model.specs.Group.{Outcome, World, lead, lead_queue, lead_request, transaction_of, world_over}
-use Rattle.store_model.specs.Play.{queue_after, step_play}
-use Rattle.store_model.specs.Script.{Session as ModelSession}
+use Rattle.store_model.specs.OneSession.Transaction.{Transaction, is_touched}
+use Rattle.store_model.specs.OneSession.Transaction as tr
+use Rattle.store_model.specs.OneSession.Turn.{Session, Free, Open, Waiting, Action, Begin, Get, Stat, Put, Commit, Turned, turn, look_turn, shown, measured, with_number, is_one_too_many, is_stale}
+use Rattle.store_model.specs.OneSession.Answer.{AnswerLine, answer_text, idle_text}
+use Rattle.store_model.specs.OneSession.Group.{Outcome, World, lead, lead_queue, lead_request, transaction_of, world_over}
+use Rattle.store_model.specs.OneSession.Play.{queue_after, step_play}
+use Rattle.store_model.specs.OneSession.Script.{Session as ModelSession}
 use Rattle.blob_steps.specs.Answers.{model_line, line_of_answer}
 use Rattle.blob_steps.specs.declared.answer.AnswerLine.{AnswerLine as MineLine}
 use Rattle.blob_steps.specs.declared.fault.StepFault.{StepFault}

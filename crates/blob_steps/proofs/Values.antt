@@ -4,15 +4,15 @@ use Rattle.std.specs.Prelude.{option_map}
 use Rattle.std.specs.FinMap.{FinMap, get}
 use Rattle.std.proofs.lemmas.List.{take-append-le, take_all}
 use Rattle.store_model.specs.Disk.{Calls, HasPages, Image, Took}
-use Rattle.store_model.specs.Cost.{Reads}
+use Rattle.store_model.specs.OneSession.Cost.{Reads}
 use Rattle.store_model.specs.Holds.{Holds, HoldsAt, ObjectStands}
 use Rattle.store_model.specs.Layout.{Layout, data_page}
-use Rattle.store_model.specs.Answer.{Value}
+use Rattle.store_model.specs.OneSession.Answer.{Value}
 use Rattle.store_model.specs.Key.{key_order}
 use Rattle.store_model.specs.Standing.{AllStand, BothStand, IsDamaged, SameObjects, StandsFor}
 use Rattle.store_model.specs.State.{IsState, State}
 use Rattle.store_model.specs.Store.{Object, Placement}
-use Rattle.store_model.specs.Turn.{shown}
+use Rattle.store_model.specs.OneSession.Turn.{shown}
 use Rattle.store_model.proofs.HoldsLaws.{Holds-there, Verifies-whole}
 use Rattle.store_model.proofs.VerifyLaws.{Verifies-Holds}
 use Rattle.blob_steps.specs.Answers.{model_line}

@@ -15,10 +15,10 @@ use Rattle.blob_steps.specs.declared.status.Status.{Status}
 use Rattle.blob_steps.specs.declared.status.Status.TheVariants as status
 use Rattle.blob_steps.specs.Going.{IsAccepted}
 use Rattle.blob_steps.specs.Runs.{Closed, Counts, Ended, EndedBy, Grew, IsRaised, IsTooSmall, IsTurnedAway, IsUndamaged, KeepsEnds, OnPlayed, PagesAre, Ran, Run, ShowsDamage, TookLines, counts_of, layout_of}
-use Rattle.store_model.specs.Cost.{Spent}
+use Rattle.store_model.specs.OneSession.Cost.{Spent}
 use Rattle.store_model.specs.Form.{Form, IsForm, IsNoForm}
 use Rattle.store_model.specs.Layout.{Layout, total_pages}
-use Rattle.store_model.specs.Play.{PlayedLine, play, store_behind}
+use Rattle.store_model.specs.OneSession.Play.{PlayedLine, play, store_behind}
 use Rattle.store_model.specs.Store.{empty_store}
 use Rattle.blob_steps.proofs.CommandWords.{same_form}
 use Rattle.blob_steps.proofs.OnTheWay.{Closed-since}

@@ -4,7 +4,7 @@ use Rattle.blob_steps.specs.declared.answer.AnswerLine.{AnswerLine}
 use Rattle.blob_steps.specs.declared.answer.AnswerLine.TheVariants as line
 use Rattle.blob_steps.specs.declared.answer.Answer.{Answer}
 use Rattle.blob_steps.specs.declared.answer.Answer.TheVariants as answer
-use Rattle.store_model.specs.Answer as model
+use Rattle.store_model.specs.OneSession.Answer as model
 
 abbrev pub model_line : AnswerLine → model.AnswerLine
 model_line line.Begun = model.Begun

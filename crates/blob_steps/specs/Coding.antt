@@ -4,7 +4,7 @@ use Rattle.std.specs.FinMap as map
 use Rattle.std.specs.Coded.{Coded, code_by, coded×, coded_list, coded_ℕ, coded_option}
 use Rattle.store_model.specs.Key.{key_order}
 use Rattle.store_model.specs.State.{Draft, IsDraft, IsDraftOf}
-use Rattle.store_model.specs.Transaction.{Transaction, Change, Put, content_of}
+use Rattle.store_model.specs.OneSession.Transaction.{Transaction, Change, Put, content_of}
 
 -- a key, as its bytes
 abbrev pub key_code : Coded (List ℕ)

@@ -14,11 +14,12 @@ use Rattle.blob_steps.specs.declared.world.World.{World}
 use Rattle.blob_steps.specs.Lines.{LineTaken}
 use Rattle.blob_steps.specs.Runs.{Grew, PagesAre}
 use Rattle.blob_steps.specs.Steps.{WorldStands}
-use Rattle.store_model.specs.Cost.{Spent}
-use Rattle.store_model.specs.Group as model
+use Rattle.store_model.specs.OneSession.Cost.{Spent}
+use Rattle.store_model.specs.OneSession.Group as model
 use Rattle.store_model.specs.Layout.{Layout}
-use Rattle.store_model.specs.Play.{Played, PlayedLine, play, play_steps, store_behind, text_of}
-use Rattle.store_model.specs.Script.{Step, lines_of, step_at, steps_from}
+use Rattle.store_model.specs.OneSession.Play.{Played, PlayedLine, play, play_steps, store_behind, text_of}
+use Rattle.store_model.specs.OneSession.Script.{Step, step_at, steps_from}
+use Rattle.store_model.specs.Script.{lines_of}
 use Rattle.store_model.specs.Store.{Store}
 
 -- the first line that is left asks for this step

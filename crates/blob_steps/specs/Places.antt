@@ -3,11 +3,11 @@ use Rattle.std.specs.Prelude.{ℕ, ◌≡◌, ◌≤◌, List, [], ◌∷◌, �
 use Rattle.std.specs.List.{flat_map}
 use Rattle.std.specs.List.Sorted.{IsPermutation}
 use Rattle.extent_alloc.specs.Parts.{Parts}
-use Rattle.store_model.specs.Judgement.{places_for}
+use Rattle.store_model.specs.OneSession.Judgement.{places_for}
 use Rattle.store_model.specs.Places.{taken}
 use Rattle.store_model.specs.Space.{Block, blocks_of}
 use Rattle.store_model.specs.Store.{Placement}
-use Rattle.store_model.specs.Transaction.{Change}
+use Rattle.store_model.specs.OneSession.Transaction.{Change}
 use Rattle.blob_steps.specs.declared.write.Write.{Write}
 use Rattle.blob_steps.specs.declared.places.TakeFault.{TakeFault}
 use Rattle.blob_steps.specs.declared.places.TakeFault.TheVariants as take

@@ -13,13 +13,13 @@ use Rattle.blob_steps.specs.declared.status.Status.{Status}
 use Rattle.blob_steps.specs.declared.status.Status.TheVariants as status
 use Rattle.blob_steps.specs.Endings.{ending_of}
 use Rattle.store_model.specs.Closing.{closing_text}
-use Rattle.store_model.specs.Cost.{Spent}
+use Rattle.store_model.specs.OneSession.Cost.{Spent}
 use Rattle.store_model.specs.Form.{Form, Fresh, IsForm, IsNoForm}
 use Rattle.store_model.specs.Images.{Wrote}
 use Rattle.store_model.specs.Key.{key_order}
 use Rattle.store_model.specs.Layout.{Layout, total_pages}
-use Rattle.store_model.specs.Play.{Played, PlayedLine, play, store_behind, taken_in, text_of}
-use Rattle.store_model.specs.Script.{AtInputEnd, AtLine}
+use Rattle.store_model.specs.OneSession.Play.{Played, PlayedLine, play, store_behind, taken_in, text_of}
+use Rattle.store_model.specs.OneSession.Script.{AtInputEnd, AtLine}
 use Rattle.store_model.specs.Space.{IsOwnedPage}
 use Rattle.store_model.specs.Standing.{AllStand, IsDamaged}
 use Rattle.store_model.specs.Store.{Object, Store, empty_store}

@@ -1,15 +1,15 @@
 -- Sessions as the values that the definitions speak of.
 use Rattle.std.specs.Prelude.{◌≡◌, ℕ, List, Option, Some, None, true, false}
 use Rattle.std.specs.FinMap.{contains_key, len}
-use Rattle.store_model.specs.Group.{transaction_of}
+use Rattle.store_model.specs.OneSession.Group.{transaction_of}
 use Rattle.blob_steps.specs.declared.session.Session.{Session}
 use Rattle.blob_steps.specs.declared.session.Session.TheVariants as session
 use Rattle.blob_steps.specs.declared.session.Reading.{Reading}
 use Rattle.blob_steps.specs.declared.session.Reading.TheVariants as reading
-use Rattle.store_model.specs.Transaction.{Transaction}
-use Rattle.store_model.specs.Turn.{is_one_too_many, is_stale, with_number}
-use Rattle.store_model.specs.Turn as model
-use Rattle.store_model.specs.Answer as answer
+use Rattle.store_model.specs.OneSession.Transaction.{Transaction}
+use Rattle.store_model.specs.OneSession.Turn.{is_one_too_many, is_stale, with_number}
+use Rattle.store_model.specs.OneSession.Turn as model
+use Rattle.store_model.specs.OneSession.Answer as answer
 use Rattle.store_model.specs.State.{State}
 use Rattle.store_model.specs.Verify.{LeadsTo}
 use Rattle.store_model.specs.Store.{Store, content_at}

@@ -8,10 +8,10 @@ use Rattle.blob_steps.specs.declared.fault.StepFault.{StepFault}
 use Rattle.blob_steps.specs.Faults.{IsRaisedFault, IsUndamagedFault, ShowsDamageFault}
 use Rattle.blob_steps.specs.Stores.{Did, IsSound, StoreStands}
 use Rattle.store_model.specs.Standing.{AllStand}
-use Rattle.store_model.specs.Turn.{Session as TurnSession, Free, Open, Waiting}
-use Rattle.store_model.specs.Group as model
-use Rattle.store_model.specs.Group.{Outcome}
-use Rattle.store_model.specs.Script.{Step, Session, Lead}
+use Rattle.store_model.specs.OneSession.Turn.{Session as TurnSession, Free, Open, Waiting}
+use Rattle.store_model.specs.OneSession.Group as model
+use Rattle.store_model.specs.OneSession.Group.{Outcome}
+use Rattle.store_model.specs.OneSession.Script.{Step, Session, Lead}
 
 -- Who waits in the queue, where there is one session.
 abbrev pub queue_of : TurnSession → List ℕ

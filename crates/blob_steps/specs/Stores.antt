@@ -4,12 +4,13 @@ use Rattle.std.specs.List.{sum_by}
 use Rattle.std.specs.List.Sorted.{IsPermutation}
 use Rattle.std.specs.FinMap.{FinMap, get}
 use Rattle.disk_model.specs.declared.disk.Disk.{Ghosts}
-use Rattle.store_model.specs.Answer.{AnswerLine, NoRoom}
-use Rattle.store_model.specs.Cost.{content_pages}
-use Rattle.store_model.specs.Group.{Committed, commits_of, judge_in, reply_line, states_bytes, store_after, taken_blocks}
+use Rattle.store_model.specs.OneSession.Answer.{AnswerLine, NoRoom}
+use Rattle.store_model.specs.OneSession.Cost.{content_pages}
+use Rattle.store_model.specs.OneSession.Group.{Committed, commits_of, judge_in, reply_line, states_bytes, store_after, taken_blocks}
 use Rattle.store_model.specs.Holds.{pages_from, place_of}
 use Rattle.store_model.specs.Images.{Wrote}
-use Rattle.store_model.specs.Judgement.{object_bytes, stored_bytes}
+use Rattle.store_model.specs.Placing.{object_bytes}
+use Rattle.store_model.specs.OneSession.Judgement.{stored_bytes}
 use Rattle.store_model.specs.Key.{key_order}
 use Rattle.store_model.specs.Layout.{Layout, data_pages}
 use Rattle.store_model.specs.Space.{Block, IsOwnedPage, blocks_of}
@@ -17,7 +18,7 @@ use Rattle.store_model.specs.Standing.{AllStand, SameObjects}
 use Rattle.store_model.specs.State.{State}
 use Rattle.store_model.specs.Store as model
 use Rattle.store_model.specs.Store.{Object}
-use Rattle.store_model.specs.Transaction.{Transaction, content_of, with_change}
+use Rattle.store_model.specs.OneSession.Transaction.{Transaction, content_of, with_change}
 use Rattle.store_model.specs.Tuple.{spelling}
 use Rattle.relation.specs.Parts.{encoded_by, owned_by}
 use Rattle.blob_steps.specs.declared.write.Write.{Write}

@@ -7,8 +7,8 @@ use Rattle.blob_steps.specs.declared.script.Step.{Step}
 use Rattle.blob_steps.specs.declared.script.Step.TheVariants as step
 use Rattle.blob_script.specs.Contents.{content_bytes}
 use Rattle.store_model.specs.Form as words
-use Rattle.store_model.specs.Turn as turn
-use Rattle.store_model.specs.Script as model
+use Rattle.store_model.specs.OneSession.Turn as turn
+use Rattle.store_model.specs.OneSession.Script as model
 
 -- the form that the definitions speak of
 abbrev pub model_form : Form → words.Form

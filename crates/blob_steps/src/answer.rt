@@ -1,7 +1,7 @@
 // The answers to a script's lines, as they are printed.
 
 ghost use Rattle.std.specs.Prelude.{◌≡◌, ◌++◌, OnOk, decimal};
-ghost use Rattle.store_model.specs.Answer.{line_text, NoRoom, NoSpace, Value, Stat};
+ghost use Rattle.store_model.specs.OneSession.Answer.{line_text, NoRoom, NoSpace, Value, Stat};
 ghost use Rattle.blob_steps.specs.Answers.{model_line, line_of_answer};
 
 use blob_base::{Bytes, Key, OutOfMemory};

@@ -3,10 +3,10 @@
 ghost use Rattle.std.specs.Prelude.{◌≡◌, ℕ, ◌+◌, ◌%◌, ◌^◌, ◌<◌, ◌≤◌, List, [], ◌∷◌, ◌++◌, length, is_some, Ok, IfOk, IfErr, if◌then◌else◌};
 ghost use Rattle.std.specs.List.Sorted.{IsPermutation};
 ghost use Rattle.std.specs.FinMap as map;
-ghost use Rattle.store_model.specs.Judgement.{places_for};
+ghost use Rattle.store_model.specs.OneSession.Judgement.{places_for};
 ghost use Rattle.store_model.specs.Places.{extent_tiers, tiers_for};
 ghost use Rattle.blob_steps.specs.Fitting.{Fits};
-ghost use Rattle.store_model.specs.Transaction.{content_of};
+ghost use Rattle.store_model.specs.OneSession.Transaction.{content_of};
 ghost use Rattle.store_model.specs.Shape.{pages_of_tier};
 ghost use Rattle.store_model.specs.Space.{Block, blocks_of, extent_blocks, tail_blocks};
 ghost use Rattle.store_model.specs.State.{AreAligned};

@@ -8,8 +8,8 @@ ghost use Rattle.blob_base.specs.declared.faults.StoreRefusal.TheVariants.{TooSm
 ghost use Rattle.disk_model.specs.Disks.{Keeps};
 ghost use Rattle.store_model.specs.Form.{IsNoForm};
 ghost use Rattle.store_model.specs.Layout.{total_pages};
-ghost use Rattle.store_model.specs.Group.{World as ModelWorld, world_over};
-ghost use Rattle.store_model.specs.Play.{step_play};
+ghost use Rattle.store_model.specs.OneSession.Group.{World as ModelWorld, world_over};
+ghost use Rattle.store_model.specs.OneSession.Play.{step_play};
 ghost use Rattle.store_model.specs.Standing.{AllStand};
 ghost use Rattle.store_model.specs.Store.{Store as ModelStore, empty_store};
 ghost use Rattle.blob_steps.specs.Steps.{CameTo, IsPlayed, WorldStands, weight};

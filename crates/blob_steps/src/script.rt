@@ -3,8 +3,9 @@
 ghost use Rattle.std.specs.Prelude.{◌≡◌, ◌==◌, ◌↔◌, map, option_map, option_and_then, bytes_eq, IfOk, IsTrue};
 ghost use Rattle.std.specs.List.{slice_split};
 ghost use Rattle.store_model.specs.Key.{key_of};
-ghost use Rattle.store_model.specs.Script.{action_of, spelled_content, step_of_words};
-ghost use Rattle.store_model.specs.Turn as turn;
+ghost use Rattle.store_model.specs.OneSession.Script.{action_of, step_of_words};
+ghost use Rattle.store_model.specs.Script.{spelled_content};
+ghost use Rattle.store_model.specs.OneSession.Turn as turn;
 ghost use Rattle.blob_steps.specs.Words.{model_action, model_step};
 
 use blob_base::{Key, OutOfMemory};

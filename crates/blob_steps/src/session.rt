@@ -5,9 +5,9 @@ ghost use Rattle.store_model.specs.Disk.{page_bytes};
 ghost use Rattle.store_model.specs.Shape.{greatest_size};
 ghost use Rattle.std.specs.FinMap as map;
 ghost use Rattle.store_model.specs.Store.{Store, number_at};
-ghost use Rattle.store_model.specs.Transaction.{new_transaction, is_touched, touched_count, content_of};
-ghost use Rattle.store_model.specs.Turn.{is_one_too_many, look_turn, put_turn, turn};
-ghost use Rattle.store_model.specs.Turn as model;
+ghost use Rattle.store_model.specs.OneSession.Transaction.{new_transaction, is_touched, touched_count, content_of};
+ghost use Rattle.store_model.specs.OneSession.Turn.{is_one_too_many, look_turn, put_turn, turn};
+ghost use Rattle.store_model.specs.OneSession.Turn as model;
 ghost use Rattle.blob_script.specs.Contents.{content_bytes};
 
 use crate::answer::AnswerLine;
@@ -32,7 +32,7 @@ pub(crate) struct Change {
 }
 
 impl Model for Change {
-    ghost use Rattle.store_model.specs.Transaction as tr;
+    ghost use Rattle.store_model.specs.OneSession.Transaction as tr;
     ghost use Rattle.blob_steps.specs.Coding.{IsDraftFor};
 
     ghost Value = { tr.Change };
@@ -46,8 +46,8 @@ impl Change {
     ghost use Rattle.store_model.specs.Holds.{place_of};
     ghost use Rattle.store_model.specs.Places.{extent_count};
     ghost use Rattle.store_model.specs.State.{IsNumber, IsState, Tells};
-    ghost use Rattle.store_model.specs.Transaction as tr;
-    ghost use Rattle.store_model.specs.Transaction.{content_of};
+    ghost use Rattle.store_model.specs.OneSession.Transaction as tr;
+    ghost use Rattle.store_model.specs.OneSession.Transaction.{content_of};
     ghost use Rattle.blob_steps.specs.Answers.{model_line};
     ghost use Rattle.blob_steps.specs.Fitting.{Fits};
     ghost use Rattle.blob_steps.specs.Sessions.{show_of};
@@ -127,7 +127,7 @@ pub(crate) struct Transaction {
 }
 
 impl Model for Transaction {
-    ghost use Rattle.store_model.specs.Transaction as tr;
+    ghost use Rattle.store_model.specs.OneSession.Transaction as tr;
     ghost use Rattle.blob_steps.specs.Coding.{transaction_code};
 
     ghost Value = { tr.Transaction };

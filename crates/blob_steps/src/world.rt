@@ -1,11 +1,11 @@
 // The world of a run: its store and its session.
 
 ghost use Rattle.std.specs.Prelude.{◌≡◌, ◌<◌, ◌≤◌, IfOk};
-ghost use Rattle.store_model.specs.Answer.{answer_text};
-ghost use Rattle.store_model.specs.Group.{World as ModelWorld, lead, world_over};
+ghost use Rattle.store_model.specs.OneSession.Answer.{answer_text};
+ghost use Rattle.store_model.specs.OneSession.Group.{World as ModelWorld, lead, world_over};
 ghost use Rattle.store_model.specs.Layout.{total_pages};
-ghost use Rattle.store_model.specs.Play.{step_play};
-ghost use Rattle.store_model.specs.Script.{Session as ModelSession};
+ghost use Rattle.store_model.specs.OneSession.Play.{step_play};
+ghost use Rattle.store_model.specs.OneSession.Script.{Session as ModelSession};
 ghost use Rattle.store_model.specs.Store.{empty_store};
 
 use crate::answer::{Answer, AnswerLine};

@@ -1,7 +1,7 @@
 // Writes of a request: changes with the places that their contents take.
 
 ghost use Rattle.std.specs.Prelude.{◌≡◌, length};
-ghost use Rattle.store_model.specs.Transaction.{content_of};
+ghost use Rattle.store_model.specs.OneSession.Transaction.{content_of};
 ghost use Rattle.blob_steps.specs.Fitting.{Fits};
 
 use crate::session::Change;

@@ -1,6 +1,6 @@
 // The space of a data area.
 
-ghost use Rattle.std.specs.Prelude.{◌≡◌, ℕ, ◌+◌, ◌%◌, ◌^◌, ◌<◌, ◌≤◌, ◌∷◌, Contains, IfOk, OnOk, IfErr, OnErr};
+ghost use Rattle.std.specs.Prelude.{◌≡◌, ℕ, ◌+◌, ◌%◌, ◌^◌, ◌<◌, ◌≤◌, ◌∷◌, min, Contains, IfOk, OnOk, IfErr, OnErr};
 ghost use Rattle.std.specs.List.Sorted.{IsPermutation};
 ghost use Rattle.store_model.specs.Space.{Apart, AreBlocks, IsFull, IsLeastFree, IsLeastOwnedTwice};
 ghost use Rattle.extent_alloc.specs.Faults.{IsBuildFault};
@@ -69,6 +69,24 @@ impl Space {
         ensures { result ≡ self.now.pages }
     {
         self.pages
+    }
+
+    /// How many more blocks can be taken or given back without taking memory.
+    pub fn spare(&self) -> usize
+        ensures { result ≡ self.now.spare }
+    {
+        self.spare
+    }
+
+    /// Makes `spare` at most `n`, and keeps the memory.
+    pub fn release(&mut self, n: usize)
+        ensures spare { self.new.spare ≡ min self.old.spare n }
+        ensures owned { self.new.owned ≡ self.old.owned }
+        ensures pages { self.new.pages ≡ self.old.pages }
+    {
+        if n < self.spare {
+            self.spare = n;
+        }
     }
 
     /// Makes `spare` at least `n`.

@@ -100,7 +100,8 @@ impl Relation {
 
     /// How many bytes its states take where they are stored, each with its key.
     pub fn bytes(&self) -> u64
-        ensures { result ≡ encoded_by self.now.states }
+        ensures value { result ≡ encoded_by self.now.states }
+        ensures few { result < bytes_bound }
     {
         self.bytes
     }

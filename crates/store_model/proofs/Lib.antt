@@ -17,3 +17,5 @@ pub mod OrderLaws
 pub mod SortedLaws
 pub mod EntryLaws
 pub mod BlockLaws
+pub mod MapLaws
+pub mod OneSessionLaws

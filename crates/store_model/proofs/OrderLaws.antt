@@ -1,11 +1,10 @@
 -- The places that contents take don't hang on the order of what is owned.
-use Rattle.std.proofs.Common.{◌≡◌, ℕ, List, [], ◌∷◌, ◌++◌, length, Option, Some, None, refl, ◌∙◌}
+use Rattle.std.proofs.Common.{◌≡◌, ℕ, List, [], ◌∷◌, ◌++◌, Option, Some, None, refl, ◌∙◌}
 use Rattle.std.specs.List.Sorted.{IsPermutation}
 use Rattle.std.proofs.lemmas.List.Sorted.{IsPermutation-append_right, IsPermutation-cons, IsPermutation-sym}
-use Rattle.store_model.specs.Judgement.{placed_then, places_for}
-use Rattle.store_model.specs.Places.{fit, found_then, taken, tiers_for}
-use Rattle.store_model.specs.Space.{Block, Fit, IsFree, IsFull, IsLeastFree, blocks_of}
-use Rattle.store_model.specs.Transaction.{Change, content_of}
+use Rattle.store_model.specs.Places.{fit, found_then, taken}
+use Rattle.store_model.specs.Placing.{Holding, Need, new_blocks, place_all, placed_then, tiers_of}
+use Rattle.store_model.specs.Space.{Block, Fit, IsFree, IsFull, IsLeastFree}
 use Rattle.store_model.proofs.FitLaws.{Fit-fit, Fit-unique}
 use Rattle.store_model.proofs.PlaceLaws.{owners-permutation}
 
@@ -52,12 +51,12 @@ taken-permutation pages (tier ∷ tiers) a b moves = λ i.
     taken-permutation pages tiers ((head, tier) ∷ a) ((head, tier) ∷ b) (IsPermutation-cons (head, tier) a b moves) i)
 
 -- nor do the places of changes
-pub places_for-permutation : (pages : ℕ) (changes : List (List ℕ × Change)) (a b : List Block) → IsPermutation a b
-    → places_for pages changes a ≡ places_for pages changes b
-places_for-permutation pages [] a b moves = refl
-places_for-permutation pages (change ∷ changes) a b moves = λ i.
-    placed_then change.0 (length (content_of change.1))
-    (taken-permutation pages (tiers_for (length (content_of change.1))) a b moves i)
-    (λ place.
-    places_for-permutation pages changes (blocks_of place ++ a) (blocks_of place ++ b)
-    (IsPermutation-append_right (blocks_of place) a b moves) i)
+pub place_all-permutation : (pages : ℕ) (held : List ℕ → Option Holding) (needs : List (List ℕ × Need)) (a b : List Block) → IsPermutation a b
+    → place_all pages held needs a ≡ place_all pages held needs b
+place_all-permutation pages held [] a b moves = refl
+place_all-permutation pages held (one ∷ others) a b moves = λ i.
+    placed_then one.0 (taken-permutation pages (tiers_of one.1 (held one.0)) a b moves i)
+    (λ heads. record { key = one.0; need = one.1; old = held one.0; heads = heads })
+    (λ placed.
+    place_all-permutation pages held others (new_blocks placed ++ a) (new_blocks placed ++ b)
+    (IsPermutation-append_right (new_blocks placed) a b moves) i)

@@ -2,7 +2,7 @@
 use Rattle.std.proofs.Common.{◌≡◌, ℕ, List, length, Option, Some, None, refl, ◌∙◌, arith}
 use Rattle.std.proofs.lemmas.List.{length-map}
 use Rattle.store_model.specs.Holds.{place_of}
-use Rattle.store_model.specs.Judgement.{object_bytes}
+use Rattle.store_model.specs.Placing.{object_bytes}
 use Rattle.store_model.specs.State.{Extent, IsState, State}
 use Rattle.store_model.specs.Tuple.{spelling, stored_tail, tail_spelling}
 use Rattle.store_model.proofs.StateLaws.{length-spelling}

@@ -13,6 +13,7 @@ pub data Refusal : Type 0 where
 
 -- why a run ended, other than well
 pub data Ending : Type 0 where
+  Malformed : ℕ → Ending
   NotBuilt : ℕ → Ending
   ReadFault : Ending
   WriteFault : Ending
@@ -30,6 +31,7 @@ refusal_text (BadFrame half page) = codes "bad-frame " ++ two_numbers half page
 refusal_text (OwnedTwice page) = codes "owned-twice " ++ decimal page
 
 abbrev pub reason_text : Ending → List ℕ
+reason_text (Malformed line) = codes "malformed line " ++ decimal line
 reason_text (NotBuilt line) = codes "not built line " ++ decimal line
 reason_text ReadFault = codes "read fault"
 reason_text WriteFault = codes "write fault"
@@ -47,6 +49,7 @@ closing_text (Some ending) = reason_text ending ++ line_end
 -- the exit status
 abbrev pub exit_status : Option Ending → ℕ
 exit_status None = 0
+exit_status (Some (Malformed line)) = 2
 exit_status (Some (NotBuilt line)) = 10
 exit_status (Some ReadFault) = 3
 exit_status (Some WriteFault) = 4

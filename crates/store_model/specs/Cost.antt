@@ -2,14 +2,13 @@
 use Rattle.std.specs.Prelude.{ℕ, ◌+◌, ◌≡◌, List, length, min}
 use Rattle.std.specs.List.{sum_by}
 use Rattle.store_model.specs.Disk.{Calls}
-use Rattle.store_model.specs.Group.{Committed}
-use Rattle.store_model.specs.Holds.{pages_from}
+use Rattle.store_model.specs.Group.{Commit}
+use Rattle.store_model.specs.Placing.{pages_written}
 use Rattle.store_model.specs.Play.{PlayedLine, commits_in}
-use Rattle.store_model.specs.Transaction.{content_of}
 
--- how many pages the contents of a committed transaction take, each of which is written once
-abbrev pub content_pages : Committed → ℕ
-content_pages commit = sum_by (λ change. pages_from (length (content_of change.1)) 0) commit.changes
+-- how many pages are written for the contents of a commit, each of them once
+abbrev pub content_pages : Commit → ℕ
+content_pages commit = sum_by pages_written commit.placed
 
 -- how many syncs a line makes: one where it commits
 abbrev pub syncs_of : PlayedLine → ℕ

@@ -1,100 +1,85 @@
--- The world that a script's lines change, and a lead: the commit of a group of queued requests.
-use Rattle.std.specs.Prelude.{ℕ, ◌+◌, ◌*◌, ◌==◌, List, [], ◌∷◌, if◌then◌else◌}
-use Rattle.std.specs.List.{flat_map}
-use Rattle.std.specs.FinMap.{entries}
-use Rattle.store_model.specs.Disk.{page_bytes}
-use Rattle.store_model.specs.Layout.{Layout, data_pages}
-use Rattle.store_model.specs.Judgement.{Commits, Judgement, NoRoom, NoSpace, judge}
-use Rattle.store_model.specs.Space.{Block, blocks_of}
-use Rattle.store_model.specs.Store.{Placement, Store}
-use Rattle.store_model.specs.Transaction.{Change, Transaction, new_transaction, apply}
-use Rattle.store_model.specs.Turn.{Session, Free, Open, Waiting}
-use Rattle.store_model.specs.Answer as answer
-use Rattle.store_model.specs.Answer.{AnswerLine, answer_text, idle_text}
+-- Groups: the requests at the front of a queue that are committed together.
+use Rattle.std.specs.Prelude.{ℕ, ◌+◌, Bool, ◌||◌, bytes_eq, List, [], ◌∷◌, ◌++◌, map, Result, Ok, Err, if◌then◌else◌}
+use Rattle.std.specs.List.{filter_map, flat_map, list_any}
+use Rattle.std.specs.Prelude.{Option, Some, None}
+use Rattle.store_model.specs.Judgement.{Asked, Judgement, Ledger, Rejection, Tally, growth_of, judge}
+use Rattle.store_model.specs.Placing.{Placed, new_blocks}
 
--- the store, the sessions by their numbers, and those whose requests are queued, in the order of their commits
-pub record World : Type 0 where
-  pub store : Store
-  pub sessions : ℕ → Session
-  pub queue : List ℕ
+-- whether a key is among others
+abbrev pub is_among : List ℕ → List (List ℕ) → Bool
+is_among key keys = list_any (λ other. bytes_eq key other) keys
 
--- over a store, with no session that has a transaction
-abbrev pub world_over : Store → World
-world_over store = record { store = store; sessions = λ _. Free; queue = [] }
+-- whether a request reads or changes one of these keys
+abbrev pub does_touch : Asked → List (List ℕ) → Bool
+does_touch asked keys = list_any (λ read. is_among read.0 keys) asked.reads || list_any (λ need. is_among need.0 keys) asked.needs
 
--- the sessions with another state of one of them
-abbrev pub with_session : (ℕ → Session) → ℕ → Session → ℕ → Session
-with_session sessions number session n = if n == number then session else sessions n
-
--- a session's transaction
-abbrev pub transaction_of : Session → Transaction
-transaction_of Free = new_transaction
-transaction_of (Open transaction) = transaction
-transaction_of (Waiting transaction) = transaction
-
--- A transaction that was committed: the number of its entry, its changes in the order of their keys, and a place for each.
-pub record Committed : Type 0 where
+-- a member of a group: its request, the number that it would have, and its judgement
+pub record Member : Type 0 where
+  pub asked : Asked
   pub number : ℕ
-  pub changes : List (List ℕ × Change)
-  pub places : List Placement
+  pub judgement : Judgement
 
--- what a step prints, the transactions that it commits, and the world after it
-pub record Outcome : Type 0 where
-  pub text : List ℕ
-  pub commits : List Committed
-  pub world : World
+-- the tally of a group before its first member
+abbrev pub no_tally : Ledger → Tally
+no_tally ledger = record { taken = []; grown = 0; last = ledger.last; changed = [] }
 
--- the line that answers a request that was judged so
-abbrev pub reply_line : Store → Judgement → AnswerLine
-reply_line store (Commits places) = answer.Committed (store.last + 1)
-reply_line store (NoSpace key tier) = answer.NoSpace key tier
-reply_line store (NoRoom need have) = answer.NoRoom need have
-
--- the store after it: a request that is refused changes nothing
-abbrev pub store_after : Store → Transaction → Judgement → Store
-store_after store transaction (Commits places) = apply store transaction (store.last + 1) places
-store_after store transaction (NoSpace key tier) = store
-store_after store transaction (NoRoom need have) = store
-
--- the transactions that are committed: this one, or none
-abbrev pub commits_of : Store → Transaction → Judgement → List Committed
-commits_of store transaction (Commits places) = record { number = store.last + 1; changes = entries transaction.changes; places = places } ∷ []
-commits_of store transaction (NoSpace key tier) = []
-commits_of store transaction (NoRoom need have) = []
-
--- the blocks that committed transactions take, one behind the other
-abbrev pub taken_blocks : List Committed → List Block
-taken_blocks commits = flat_map (λ commit. flat_map blocks_of commit.places) commits
-
--- the reply to a session's request that was judged so, which leaves the queue and its session free
-abbrev pub replied : World → ℕ → Transaction → List ℕ → Judgement → Outcome
-replied world session transaction queue judgement = record {
-  text = answer_text session (reply_line world.store judgement);
-  commits = commits_of world.store transaction judgement;
-  world = record {
-    store = store_after world.store transaction judgement;
-    sessions = with_session world.sessions session Free;
-    queue = queue;
-  };
+-- the tally behind a member: a rejected one leaves it as it was
+abbrev pub tally_after : Tally → Judgement → Tally
+tally_after tally (Err why) = tally
+tally_after tally (Ok placed) = record {
+  taken = flat_map new_blocks placed ++ tally.taken;
+  grown = tally.grown + growth_of placed;
+  last = tally.last + 1;
+  changed = map (λ one. one.key) placed ++ tally.changed;
 }
 
--- how many bytes a layout has for the states of a half
-abbrev pub states_bytes : Layout → ℕ
-states_bytes layout = page_bytes * layout.room
+-- a member behind those that came to this tally
+abbrev pub member_of : Ledger → Tally → Asked → Member
+member_of ledger tally asked = record { asked = asked; number = tally.last + 1; judgement = judge ledger tally asked }
 
--- the judgement of a request in a store of this layout
-abbrev pub judge_in : Layout → Store → Transaction → Judgement
-judge_in layout store transaction = judge store transaction (data_pages layout) (states_bytes layout)
+-- The members at the front of a queue, behind those that came to this tally. They end before the first request that touches a key
+-- which an earlier committing member changes.
+abbrev pub members_from : Ledger → Tally → List Asked → List Member
+members_from ledger tally [] = []
+members_from ledger tally (asked ∷ queue) =
+    if does_touch asked tally.changed then []
+    else member_of ledger tally asked ∷ members_from ledger (tally_after tally (judge ledger tally asked)) queue
 
--- the lead of a session's request, with the sessions that are still queued behind it
-abbrev pub lead_request : Layout → World → ℕ → Transaction → List ℕ → Outcome
-lead_request layout world session transaction queue = replied world session transaction queue (judge_in layout world.store transaction)
+-- the group at the front of a queue
+abbrev pub group : Ledger → List Asked → List Member
+group ledger queue = members_from ledger (no_tally ledger) queue
 
--- a lead at this queue
-abbrev pub lead_queue : Layout → World → List ℕ → Outcome
-lead_queue layout world [] = record { text = idle_text; commits = []; world = world }
-lead_queue layout world (session ∷ queue) = lead_request layout world session (transaction_of (world.sessions session)) queue
+-- the reply to a member: the number of its entry, or why it has none
+abbrev pub Reply : Type 0
+Reply = Result ℕ Rejection
 
--- A lead commits one group. While there is one session, a group is the request at the front of the queue.
-abbrev pub lead : Layout → World → Outcome
-lead layout world = lead_queue layout world world.queue
+abbrev pub judged : ℕ → Judgement → Reply
+judged number (Ok placed) = Ok number
+judged number (Err why) = Err why
+
+abbrev pub reply_of : Member → Reply
+reply_of member = judged member.number member.judgement
+
+-- A member that is committed: its session, the number of its transaction there, the number of its entry, and its changes with their
+-- blocks.
+pub record Commit : Type 0 where
+  pub session : ℕ
+  pub nth : ℕ
+  pub number : ℕ
+  pub placed : List Placed
+
+abbrev pub commit_by : Asked → ℕ → Judgement → Option Commit
+commit_by asked number (Ok placed) = Some (record { session = asked.session; nth = asked.nth; number = number; placed = placed })
+commit_by asked number (Err why) = None
+
+-- the commit of a member, where it has one
+abbrev pub commit_of : Member → Option Commit
+commit_of member = commit_by member.asked member.number member.judgement
+
+-- the commits of members, in their order
+abbrev pub commits_of : List Member → List Commit
+commits_of members = filter_map commit_of members
+
+-- the blocks that commits take, one behind the other
+abbrev pub taken_blocks : List Commit → List (ℕ × ℕ)
+taken_blocks commits = flat_map (λ commit. flat_map new_blocks commit.placed) commits

@@ -2,6 +2,7 @@ pub mod BlockFunction
 pub mod Hash
 pub mod Shape
 pub mod Key
+pub mod Maps
 pub mod Store
 pub mod Transaction
 pub mod Answer
@@ -22,6 +23,9 @@ pub mod Space
 pub mod Verify
 pub mod Standing
 pub mod Places
+pub mod Placing
 pub mod Judgement
+pub mod World
 pub mod Field
 pub mod TupleFields
+pub mod OneSession

@@ -28,6 +28,10 @@ empty_store = record { objects = empty; last = 0 }
 abbrev pub number_at : Store → List ℕ → Option ℕ
 number_at store key = option_map (λ object. object.number) (get store.objects key)
 
+-- the content of an object, where there is one
+abbrev pub content_of_object : Option Object → Option (List ℕ)
+content_of_object object = option_map (λ object. object.content) object
+
 -- the content of a key, or none
 abbrev pub content_at : Store → List ℕ → Option (List ℕ)
-content_at store key = option_map (λ object. object.content) (get store.objects key)
+content_at store key = content_of_object (get store.objects key)

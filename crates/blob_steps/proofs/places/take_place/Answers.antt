@@ -1,7 +1,7 @@
 use Rattle.std.proofs.Common.{length}
 use Rattle.std.proofs.lemmas.Result.{err_from_is_err_and}
 use Rattle.store_model.specs.Space.{extent_blocks, tail_blocks}
-use Rattle.store_model.specs.Transaction.{content_of}
+use Rattle.store_model.specs.OneSession.Transaction.{content_of}
 use Rattle.blob_steps.specs.Places.{tail_list}
 use Rattle.blob_steps.proofs.Placing.{Fits-taken, IsTakeFault-extents, IsTakeFault-tail, TakesHeads-place, listed-few}
 use Rattle.blob_steps.proofs.Takings.{Takes-then}

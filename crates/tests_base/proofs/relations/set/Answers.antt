@@ -10,6 +10,6 @@ set-requires-clause-bytes g c =
     omega (
       arith,
       sum-insert (λ (key : List ℕ) (state : State). length (spelling key state)) c.args.relation.now.states c.expect-key.result c.state_of-state.result,
-      c.bytes.ensures,
+      c.bytes.ensures.value,
       c.encoded-longer.ensures.value,
     )

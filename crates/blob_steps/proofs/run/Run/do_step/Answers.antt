@@ -3,7 +3,7 @@ use Rattle.blob_steps.specs.Answers.{line_of_answer}
 use Rattle.blob_steps.specs.Steps.{CameTo}
 use Rattle.blob_steps.specs.Words.{model_step}
 use Rattle.blob_steps.proofs.run.Run.do_step.Goals as goal
-use Rattle.store_model.specs.Play.{step_play}
+use Rattle.store_model.specs.OneSession.Play.{step_play}
 
 pub returns-in-Ok-print-clause-step : goal.returns-in-Ok-print-clause-step
 returns-in-Ok-print-clause-step g c = λ world is.

@@ -1,6 +1,6 @@
 use Rattle.std.proofs.Common.{ap, ◌∙◌, arith, length}
 use Rattle.store_model.specs.Places.{extent_count}
-use Rattle.store_model.specs.Transaction.{content_of}
+use Rattle.store_model.specs.OneSession.Transaction.{content_of}
 use Rattle.blob_steps.proofs.Drafting.{count-draft, most-marks}
 use Rattle.blob_steps.proofs.session.Change.extents.Goals as goal
 

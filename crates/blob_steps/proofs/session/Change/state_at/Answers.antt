@@ -2,7 +2,7 @@ use Rattle.std.proofs.Common.{length, sym, subst, ap, ◌∙◌}
 use Rattle.store_model.specs.Places.{extent_count}
 use Rattle.store_model.specs.State.{AreAligned, Draft, IsDraftOf, Tells}
 use Rattle.store_model.specs.Store.{Placement}
-use Rattle.store_model.specs.Transaction.{content_of}
+use Rattle.store_model.specs.OneSession.Transaction.{content_of}
 use Rattle.blob_steps.proofs.Drafting.{count-draft}
 use Rattle.blob_steps.proofs.session.Change.state_at.Goals as goal
 

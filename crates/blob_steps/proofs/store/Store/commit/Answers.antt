@@ -1,7 +1,7 @@
 use Rattle.std.proofs.Common.{◌≡◌, ◌+◌, ◌∙◌, List, Some, None, refl, subst}
 use Rattle.std.specs.List.{sum_by}
-use Rattle.store_model.specs.Answer.{NoSpace}
-use Rattle.store_model.specs.Group.{states_bytes}
+use Rattle.store_model.specs.OneSession.Answer.{NoSpace}
+use Rattle.store_model.specs.OneSession.Group.{states_bytes}
 use Rattle.disk_model.specs.Disks.{OnlyWrites}
 use Rattle.store_model.specs.Disk.{Took}
 use Rattle.store_model.specs.Space.{IsOwnedPage}

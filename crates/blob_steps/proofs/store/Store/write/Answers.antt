@@ -5,7 +5,7 @@ use Rattle.store_model.specs.Layout.{data_pages}
 use Rattle.store_model.specs.Space.{AreBlocks, blocks_of, owners}
 use Rattle.store_model.specs.Store.{Placement}
 use Rattle.store_model.specs.State.{State}
-use Rattle.store_model.specs.Transaction.{content_of}
+use Rattle.store_model.specs.OneSession.Transaction.{content_of}
 use Rattle.blob_steps.specs.declared.store.Store.{Store}
 use Rattle.relation.specs.Parts.{owned_by}
 use Rattle.blob_steps.specs.Stores.{object_of, old_blocks}

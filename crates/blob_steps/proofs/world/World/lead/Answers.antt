@@ -2,7 +2,7 @@ use Rattle.std.proofs.Common.{◌≡◌, ◌∙◌, arith, ap, refl, sym}
 use Rattle.disk_model.proofs.DiskLaws.{Keeps-none}
 use Rattle.std.specs.FinMap.{len-empty}
 use Rattle.store_model.specs.Key.{key_order}
-use Rattle.store_model.specs.Transaction.{Change}
+use Rattle.store_model.specs.OneSession.Transaction.{Change}
 use Rattle.blob_steps.specs.declared.answer.Answer.TheVariants.{Idle, Session}
 use Rattle.blob_steps.specs.Answers.{model_line}
 use Rattle.blob_steps.specs.Sessions.{model_session, change_count}

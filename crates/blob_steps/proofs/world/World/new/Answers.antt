@@ -1,7 +1,7 @@
 use Rattle.std.proofs.Common.{arith}
 use Rattle.std.specs.FinMap.{len-empty}
 use Rattle.store_model.specs.Key.{key_order}
-use Rattle.store_model.specs.Transaction.{Change}
+use Rattle.store_model.specs.OneSession.Transaction.{Change}
 use Rattle.blob_steps.proofs.Turns.{WorldStands-new}
 use Rattle.blob_steps.proofs.world.World.new.Goals as goal
 

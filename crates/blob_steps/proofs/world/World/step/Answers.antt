@@ -2,9 +2,9 @@ use Rattle.std.proofs.Common.{sym, subst}
 use Rattle.blob_steps.specs.Answers.{model_line}
 use Rattle.blob_steps.specs.Steps.{CameTo}
 use Rattle.blob_steps.specs.Words.{model_action}
-use Rattle.store_model.specs.Answer.{answer_text}
-use Rattle.store_model.specs.Play.{step_play}
-use Rattle.store_model.specs.Script.{Session}
+use Rattle.store_model.specs.OneSession.Answer.{answer_text}
+use Rattle.store_model.specs.OneSession.Play.{step_play}
+use Rattle.store_model.specs.OneSession.Script.{Session}
 use Rattle.blob_steps.proofs.world.World.step.Goals as goal
 
 pub returns-in_ok-line-in-Session-clause-step : goal.returns-in_ok-line-in-Session-clause-step

@@ -1,6 +1,6 @@
 use Rattle.std.proofs.Common.{arith, refl}
 use Rattle.store_model.specs.Store.{empty_store}
-use Rattle.store_model.specs.Turn.{Begin, Put, Commit}
+use Rattle.store_model.specs.OneSession.Turn.{Begin, Put, Commit}
 use Rattle.blob_script.specs.Contents.{content_bytes}
 use Rattle.blob_steps.specs.Answers.{model_line}
 use Rattle.blob_steps.specs.Sessions.{model_session}

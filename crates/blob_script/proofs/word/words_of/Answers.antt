@@ -1,0 +1,9 @@
+use Rattle.std.proofs.Common.{◌==◌, rules}
+use Rattle.std.proofs.lemmas.Iterator.Consumers.{map_from_collect}
+use Rattle.std.proofs.lemmas.Iterator.Splits.{YieldsList-from_slice_split}
+use Rattle.blob_script.proofs.word.words_of.Goals as goal
+
+pub returns : goal.returns
+returns c =
+    rw c.in_ok-collect.was at (map_from_collect c.collect.result c.collect.ensures.ran (YieldsList-from_slice_split _ (λ byte. byte == 32) c.args.line.now
+    c.split.ensures.rest c.split.ensures.done c.split.ensures.closure (λ x b q k. search rules)))

@@ -1,0 +1,213 @@
+// How a run ended.
+
+ghost use Rattle.std.specs.Prelude.{◌≡◌, ◌+◌, ◌≤◌, ◌++◌, length, codes, decimal};
+ghost use Rattle.blob_script.specs.Endings.{ending_of, refusal_of};
+ghost use Rattle.hex.specs.Hex.{encode_lower};
+ghost use Rattle.store_model.specs.Answer.{line_end, two_numbers};
+ghost use Rattle.store_model.specs.Closing.{Damaged, exit_status, closing_text, reason_text, refusal_text};
+
+use arrayvec::ArrayVec;
+use blob_base::{Key, StoreRefusal};
+
+const MAX_CLOSING: usize = 256;
+
+/// How a run ended.
+#[derive(Debug, Drop, PartialEq, Eq)]
+pub enum Status {
+    /// The script was read to its end.
+    Done,
+    /// This line is none of those that a script may have. Lines are numbered from 1.
+    Malformed {
+        line: u64,
+    },
+    /// This line is none of those that are built.
+    NotBuilt {
+        line: u64,
+    },
+    /// The source failed.
+    ReadFault,
+    /// The sink failed.
+    WriteFault,
+    /// The disk failed.
+    DiskFault,
+    /// The disk isn't opened as a store.
+    Refused {
+        why: StoreRefusal,
+    },
+    /// There was no memory.
+    OutOfMemory,
+    /// The words are no form.
+    Usage,
+    /// The bytes read for this key's content don't lead to what its state keeps. Its links are numbered: one for each
+    /// extent, and the last for the digest. This link is the first that fails: the state keeps `want`, and the bytes give
+    /// `got`.
+    Damaged {
+        key: Key,
+        link: u32,
+        want: [u8; 32],
+        got: [u8; 32],
+    },
+}
+
+impl Status {
+    /// The program's exit status.
+    pub fn code(&self) -> u8
+        ensures { result ≡ exit_status (ending_of self.now) }
+    {
+        match self {
+            Status::Done => 0,
+            Status::Malformed { .. } => 2,
+            Status::ReadFault => 3,
+            Status::WriteFault => 4,
+            Status::DiskFault => 5,
+            Status::Refused { .. } => 6,
+            Status::OutOfMemory => 7,
+            Status::Usage => 8,
+            Status::Damaged { .. } => 9,
+            Status::NotBuilt { .. } => 10,
+        }
+    }
+
+    /// The line that closes the output, with its end; empty for `Done`. It takes no memory.
+    pub fn closing(&self) -> ArrayVec<u8, 256>
+        ensures { result.items ≡ closing_text (ending_of self.now) }
+    {
+        match self {
+            Status::Done => ArrayVec::new(),
+            Status::Malformed { line } => line_with_number(b"malformed line ", *line),
+            Status::NotBuilt { line } => line_with_number(b"not built line ", *line),
+            Status::ReadFault => line_of(b"read fault"),
+            Status::WriteFault => line_of(b"write fault"),
+            Status::DiskFault => line_of(b"disk fault"),
+            Status::Refused { why } => refusal_line(why),
+            Status::OutOfMemory => line_of(b"out of memory"),
+            Status::Usage => line_of(b"usage"),
+            Status::Damaged {
+                key,
+                link,
+                want,
+                got,
+            } => damaged_line(key, *link, want, got),
+        }
+    }
+}
+
+// The line of a disk that isn't opened as a store.
+fn refusal_line(why: &StoreRefusal) -> ArrayVec<u8, MAX_CLOSING>
+    ensures { result.items ≡ codes "store refused: " ++ refusal_text (refusal_of why.now) ++ line_end }
+{
+    match why {
+        StoreRefusal::TooSmall { need, have } => {
+            line_with_two(b"store refused: too-small ", *need, *have)
+        }
+        StoreRefusal::BadHalf { half, at } => {
+            line_with_two(
+                b"store refused: bad-half ",
+                u64::from(*half),
+                u64::from(*at),
+            )
+        }
+        StoreRefusal::BadTuple { half, at } => {
+            line_with_two(
+                b"store refused: bad-tuple ",
+                u64::from(*half),
+                u64::from(*at),
+            )
+        }
+        StoreRefusal::BadFrame { half, page } => {
+            line_with_two(
+                b"store refused: bad-frame ",
+                u64::from(*half),
+                u64::from(*page),
+            )
+        }
+        StoreRefusal::OwnedTwice { page } => {
+            line_with_number(b"store refused: owned-twice ", u64::from(*page))
+        }
+    }
+}
+
+// The line of a key whose content isn't what its state keeps.
+fn damaged_line(key: &Key, link: u32, want: &[u8; 32], got: &[u8; 32]) -> ArrayVec<u8, MAX_CLOSING>
+    ensures { result.items ≡ reason_text (Damaged key.now link want.now got.now) ++ line_end }
+{
+    let mut line = ArrayVec::new();
+    push_text(&mut line, b"damaged ");
+    push_text(&mut line, key.text());
+    push_text(&mut line, b" ");
+    push_number(&mut line, u64::from(link));
+    push_text(&mut line, b" ");
+    push_value(&mut line, want);
+    push_text(&mut line, b" ");
+    push_value(&mut line, got);
+    push_text(&mut line, b"\n");
+    line
+}
+
+// Puts a value in hexadecimal behind what is there.
+fn push_value(line: &mut ArrayVec<u8, MAX_CLOSING>, value: &[u8; 32])
+    requires { length line.old.items + 64 ≤ 256 }
+    ensures text { line.new.items ≡ line.old.items ++ encode_lower value.now }
+    ensures len { length line.new.items ≡ length line.old.items + 64 }
+{
+    let mut digits = [0; 64];
+    let _ = hex::encode_to_slice(value, &mut digits);
+    push_text(line, &digits);
+}
+
+// A text as a line.
+fn line_of(text: &[u8]) -> ArrayVec<u8, MAX_CLOSING>
+    requires { length text.now ≤ 100 }
+    ensures { result.items ≡ text.now ++ line_end }
+{
+    let mut line = ArrayVec::new();
+    push_text(&mut line, text);
+    push_text(&mut line, b"\n");
+    line
+}
+
+// A label and a number as a line.
+fn line_with_number(label: &[u8], number: u64) -> ArrayVec<u8, MAX_CLOSING>
+    requires { length label.now ≤ 100 }
+    ensures { result.items ≡ label.now ++ decimal number ++ line_end }
+{
+    let mut line = ArrayVec::new();
+    push_text(&mut line, label);
+    push_number(&mut line, number);
+    push_text(&mut line, b"\n");
+    line
+}
+
+// A label and two numbers as a line.
+fn line_with_two(label: &[u8], first: u64, second: u64) -> ArrayVec<u8, MAX_CLOSING>
+    requires { length label.now ≤ 100 }
+    ensures { result.items ≡ label.now ++ two_numbers first second ++ line_end }
+{
+    let mut line = ArrayVec::new();
+    push_text(&mut line, label);
+    push_number(&mut line, first);
+    push_text(&mut line, b" ");
+    push_number(&mut line, second);
+    push_text(&mut line, b"\n");
+    line
+}
+
+// Puts a text behind what is there.
+fn push_text(line: &mut ArrayVec<u8, MAX_CLOSING>, text: &[u8])
+    requires { length line.old.items + length text.now ≤ 256 }
+    ensures text { line.new.items ≡ line.old.items ++ text.now }
+    ensures len { length line.new.items ≡ length line.old.items + length text.now }
+{
+    for byte in text {
+        line.push(*byte);
+    }
+}
+
+// Puts a number behind what is there.
+fn push_number(line: &mut ArrayVec<u8, MAX_CLOSING>, number: u64)
+    requires { length line.old.items + 20 ≤ 256 }
+    ensures text { line.new.items ≡ line.old.items ++ decimal number }
+    ensures len { length line.new.items ≤ length line.old.items + 20 }
+{
+    push_text(line, itoa::Buffer::new().format(number).as_bytes());
+}
