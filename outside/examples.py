@@ -1,8 +1,7 @@
-"""Worked examples of the model: scripts whose answers, places and pages were found by hand.
+"""Checks the model alone: by the worked cases, which the program is also run on, and by further
+examples whose answers, places and pages were found by hand.
 
-`python3 outside/examples.py` checks them all. Lines are joined here by `; `. Some examples need
-more of the language than the program answers today; they run with WIDER, and show that the
-model is ready for it.
+`python3 outside/examples.py` checks them all. Lines are joined here by `; `.
 """
 
 import sys
@@ -10,27 +9,20 @@ import sys
 sys.dont_write_bytecode = True  # nothing is left beside this file
 
 import model
-
-WIDER = model.TODAY._replace(
-    verbs=model.TODAY.verbs | {"del", "abort"},
-    sessions=range(0, 16),
-    lines=1_000_000,
-    skips=True,
-    malformed=True,
-)
+import worked
 
 
-def outcome(script: str, units: int = 1, room: int = 1, built=model.TODAY) -> model.Outcome:
+def outcome(script: str, units: int = 1, room: int = 1) -> model.Outcome:
     words = [b"fresh", b"s", b"%d" % units, b"%d" % room]
-    return model.run(words, script.replace("; ", "\n").encode(), built=built)
+    return model.run(words, script.replace("; ", "\n").encode())
 
 
-def answers(script: str, units: int = 1, room: int = 1, built=model.TODAY) -> str:
-    return outcome(script, units, room, built).text.decode().rstrip("\n").replace("\n", "; ")
+def answers(script: str, units: int = 1, room: int = 1) -> str:
+    return outcome(script, units, room).text.decode().rstrip("\n").replace("\n", "; ")
 
 
-def last(script: str, units: int = 1, room: int = 1, built=model.TODAY) -> str:
-    return answers(script, units, room, built).split("; ")[-1]
+def last(script: str, units: int = 1, room: int = 1) -> str:
+    return answers(script, units, room).split("; ")[-1]
 
 
 def same(found, wanted) -> None:
@@ -56,6 +48,12 @@ def data(script: str) -> dict:
     return {page - 1029: held for page, held in outcome(script).pages.items()}
 
 
+def worked_cases() -> None:
+    for one in worked.WORKED:
+        case = worked.case_of(one)
+        same((one.name, worked.fits(one, model.run(case.words, case.script))), (one.name, True))
+
+
 def first_path() -> None:
     same(outcome("").text, b"")
     same(outcome("").status, 0)
@@ -69,8 +67,8 @@ def first_path() -> None:
     script = put("demo/a", "x:") + "; 0 begin; 0 get demo/a; 0 stat demo/a"
     same(answers(script).split("; ")[5:], ["0 value 0 -", "0 stat 0 " + none])
     same(data(script), {})
-    same(answers("0 begin; 0 jump"), "0 begun; not built line 2")
-    same(outcome("0 begin; 0 jump").status, 10)
+    same(answers("0 begin; 0 find x:"), "0 begun; not built line 2")
+    same(outcome("0 begin; 0 find x:").status, 10)
 
 
 def places() -> None:
@@ -113,7 +111,7 @@ def full_stores() -> None:
     same(sorted(data(script)), list(range(1024)))
     # Two of one group: the refused one takes no place and no number.
     two = "0 begin; 0 put demo/c x:61; 1 begin; 1 put demo/d x:; 0 commit; 1 commit; lead"
-    same(answers(script + "; " + two, built=WIDER).split("; ")[-2:], ["0 no-space demo/c 0", "1 committed 3"])
+    same(answers(script + "; " + two).split("; ")[-2:], ["0 no-space demo/c 0", "1 committed 3"])
     script = "; ".join(put(f"demo/{name}", "g:4177920:0") for name in "abcd")
     same(last(script, units=8), "0 no-room 4940 4096")
     # What is replaced is owned until after its lead, then used again.
@@ -126,29 +124,29 @@ def sessions() -> None:
          "0 no-transaction; 0 begun; 0 already; 0 queued; 0 busy; 0 busy; 0 committed 1; idle; "
          "0 no-transaction")
     many = "0 begin; " + "; ".join(f"0 put demo/k{i:02} x:" for i in range(17))
-    same(last(many, built=WIDER), "0 too-many 17")
+    same(last(many), "0 too-many 17")
     one = put("demo/a", "x:61") + "; "
     same(answers(one + "0 begin; 1 begin; 0 get demo/a; 1 get demo/a; 0 put demo/a x:62; "
-                 "1 put demo/a x:63; 0 commit; 1 commit; lead; lead", built=WIDER).split("; ")[-2:],
+                 "1 put demo/a x:63; 0 commit; 1 commit; lead; lead").split("; ")[-2:],
          ["0 committed 2", "1 conflict demo/a 1 2"])
     begun = "; ".join(f"{i} begin" for i in range(3)) + "; "
     commits = "; ".join(f"{i} commit" for i in range(3)) + "; "
     puts = "0 put demo/a x:; 1 put demo/b x:; 2 put demo/c x:; "
-    same(answers(begun + puts + commits + "lead", built=WIDER).split("; ")[-3:],
+    same(answers(begun + puts + commits + "lead").split("; ")[-3:],
          ["0 committed 1", "1 committed 2", "2 committed 3"])
     puts = "0 put demo/a x:; 1 put demo/a x:; 2 put demo/b x:; "
-    same(answers(begun + puts + commits + "lead; lead; lead", built=WIDER).split("; ")[-4:],
+    same(answers(begun + puts + commits + "lead; lead; lead").split("; ")[-4:],
          ["0 committed 1", "1 committed 2", "2 committed 3", "idle"])
     same(answers(one + "0 begin; 0 get demo/a; 1 begin; 1 put demo/a x:62; 1 commit; lead; "
-                 "0 get demo/a; 0 commit; lead", built=WIDER).split("; ")[-4:],
+                 "0 get demo/a; 0 commit; lead").split("; ")[-4:],
          ["1 committed 2", "0 stale 2", "0 queued", "0 conflict demo/a 1 2"])
-    same(answers("0 begin; 0 del demo/z; 0 put demo/a x:; 0 del demo/a; 0 get demo/a", built=WIDER),
+    same(answers("0 begin; 0 del demo/z; 0 put demo/a x:; 0 del demo/a; 0 get demo/a"),
          "0 begun; 0 absent; 0 put; 0 deleted; 0 absent")
     gone = one + "0 begin; 0 del demo/a; 0 commit; lead; " + put("demo/b", "x:62")
-    same(outcome(gone, built=WIDER).pages[1029][:1], b"b")
+    same(outcome(gone).pages[1029][:1], b"b")
     skipped = "0 begin; # a comment; ; 0 abort; 0 jump"
-    same(answers(skipped, built=WIDER), "0 begun; 0 aborted; malformed line 5")
-    same(outcome("0 jump", built=WIDER).status, 2)
+    same(answers(skipped), "0 begun; 0 aborted; malformed line 5")
+    same(outcome("0 jump").status, 2)
 
 
 def words() -> None:
@@ -162,6 +160,6 @@ def words() -> None:
 
 
 if __name__ == "__main__":
-    for check in (first_path, places, contents, full_stores, sessions, words):
+    for check in (worked_cases, first_path, places, contents, full_stores, sessions, words):
         check()
     print("all examples hold")

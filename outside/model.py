@@ -5,7 +5,7 @@ error, its exit status, and every byte of its file afterwards. It is made to be 
 documentation, so it is slow and simple: contents are whole lists of bytes, the store is a plain
 map, free places are searched page by page.
 
-The order of this file: what is built, words, lines, contents, the store and its places,
+The order of this file: what is built, words, lines and contents, the store and its places,
 transactions and answers, the lead of a group, the play of a script, the whole run.
 """
 
@@ -20,6 +20,7 @@ GREATEST_SIZE = 381_669_375  # bytes of a content
 GREATEST_TIER = 10
 KEYS_OF_A_TRANSACTION = 16
 LONGEST_LINE = 65_536  # bytes without the line's end
+MOST_LINES = 1_000_000
 
 
 # What is built ------------------------------------------------------------------------------
@@ -29,22 +30,14 @@ class Built(NamedTuple):
     """The part of the language that the program answers."""
 
     forms: frozenset  # first words of the forms of words; any other form is faulty
-    verbs: frozenset  # verbs of script lines
-    sessions: range
-    lines: int  # how many lines a script may have
-    skips: bool  # blank lines and comments are skipped (else: not built)
-    malformed: bool  # a line outside the grammar is `malformed` (else: not built)
+    verbs: frozenset  # verbs of script lines; any other verb of the grammar is not built
 
 
 # The program of today. To widen the model, widen this table; a verb that has no function in
 # ACTIONS or RUN_LINES below needs one.
 TODAY = Built(
     forms=frozenset({"fresh"}),
-    verbs=frozenset({"begin", "get", "stat", "put", "commit", "lead"}),
-    sessions=range(0, 1),
-    lines=16,
-    skips=False,
-    malformed=False,
+    verbs=frozenset({"begin", "get", "stat", "put", "del", "commit", "abort", "lead"}),
 )
 
 
@@ -199,8 +192,6 @@ class Step(NamedTuple):
 def read_step(line: bytes) -> Optional[Step]:
     """The step of a line that isn't skipped, or None where the line is malformed. Words are
     parted by one blank each, with none at either end."""
-    if len(line) > LONGEST_LINE:
-        return None
     words = line.split(b" ")
     if len(words) == 1:
         return next((Step(None, verb, ()) for verb in RUN_LINES if words[0] == verb.encode()), None)
@@ -541,57 +532,75 @@ def lead(store: Store, sessions: list, queue: list) -> list:
 
 # The play of a script -----------------------------------------------------------------------
 
+
+class Said(NamedTuple):
+    """What came of one line, or of the run's end."""
+
+    cause: str  # the line's verb, or one of the words below
+    answers: tuple  # lines of text without their ends
+    left: int = 0  # requests that a lead left in the queue
+
+
+BLANK = Said("blank", ())
+COMMENT = Said("comment", ())
+
 # The exit status and the closing line of each way in which a script ends before its end.
 MALFORMED = (2, "malformed line {}")
 NOT_BUILT = (10, "not built line {}")
 
 
-def why_not(number: int, line: bytes, built: Built):
-    """How the run ends at a line, or None where the line is skipped or answered."""
-    fault = MALFORMED if built.malformed else NOT_BUILT
-    if number > built.lines or len(line) > LONGEST_LINE:
-        return fault
-    if is_skipped(line):
-        return None if built.skips else fault
+class Ended(Exception):
+    """The script ends here, with a status and a closing line, for a cause."""
+
+    def __init__(self, end: tuple, cause: str):
+        super().__init__(cause)
+        self.status, self.closing = end
+        self.cause = cause
+
+
+def read_line(number: int, line: bytes, built: Built) -> Optional[Step]:
+    """What a line asks for, or None where it is skipped. The bounds on lines come first."""
+    if number > MOST_LINES:
+        raise Ended(MALFORMED, "one line too many")
+    if len(line) > LONGEST_LINE:
+        raise Ended(MALFORMED, "line too long")
+    if line == b"" or line.startswith(b"#"):
+        return None
     step = read_step(line)
     if step is None:
-        return fault
-    if step.verb not in built.verbs or step.session not in (None, *built.sessions):
-        return NOT_BUILT
-    return None
-
-
-def is_skipped(line: bytes) -> bool:
-    """Whether it is a blank line or a comment. Such a line is counted."""
-    return line == b"" or line.startswith(b"#")
+        raise Ended(MALFORMED, "no line of the grammar")
+    if step.verb not in built.verbs:
+        raise Ended(NOT_BUILT, step.verb)
+    return step
 
 
 def play(store: Store, script: bytes, built: Built) -> tuple:
-    """Runs the lines one by one. The text that is written, and the exit status. At the end of
-    the script open and queued transactions are dropped."""
+    """Runs the lines one by one. What came of each, and the exit status. At the end of the
+    script open and queued transactions are dropped."""
     sessions = [Session() for _ in range(16)]
     queue = []
-    text = []
+    said = []
     for number, line in enumerate(split_lines(script), start=1):
-        end = why_not(number, line, built)
-        if end is not None:
-            status, closing = end
-            return lines_of(text + [closing.format(number)]), status
-        if is_skipped(line):
-            continue
-        step = read_step(line)
-        if step.verb == "lead":
-            text += lead(store, sessions, queue)
-            continue
-        answer = turn(store, sessions[step.session], step)
-        text.append(f"{step.session} {answer}")
-        if answer == "queued":
-            queue.append(step.session)
-    return lines_of(text), 0
+        try:
+            step = read_line(number, line, built)
+        except Ended as end:
+            return said + [Said(end.cause, (end.closing.format(number),))], end.status
+        if step is None:
+            said.append(COMMENT if line else BLANK)
+        elif step.verb == "lead":
+            answers = lead(store, sessions, queue)
+            said.append(Said("lead", tuple(answers), len(queue)))
+        else:
+            answer = turn(store, sessions[step.session], step)
+            said.append(Said(step.verb, (f"{step.session} {answer}",)))
+            if answer == "queued":
+                queue.append(step.session)
+    return said + [Said("end of the script", ())], 0
 
 
-def lines_of(text: list) -> bytes:
-    return "".join(line + "\n" for line in text).encode()
+def text_of(said: list) -> bytes:
+    """Standard output."""
+    return "".join(answer + "\n" for one in said for answer in one.answers).encode()
 
 
 # The whole run ------------------------------------------------------------------------------
@@ -605,20 +614,23 @@ class Outcome(NamedTuple):
     errors: Optional[bytes]  # standard error, or None where nothing is said of it
     length: Optional[int]  # bytes of the file, or None where the run leaves the file alone
     pages: dict  # from page of the file to its bytes; all other pages are zeros
+    said: list  # what came of each line, and of the run's end
 
 
 def run(words: list, script: bytes, opens: bool = True, built: Built = TODAY) -> Outcome:
     """One run over these words and this script. `opens`: the system lets the file be made."""
     form = read_form(words, built)
     if form is None:
-        return Outcome(b"usage\n", 8, LIST_OF_FORMS, None, {})
+        said = [Said("faulty words", ("usage",))]
+        return Outcome(text_of(said), 8, LIST_OF_FORMS, None, {}, said)
     if not opens:
-        return Outcome(b"", 11, b"cannot open " + form["FILE"] + b"\n", None, {})
+        errors = b"cannot open " + form["FILE"] + b"\n"
+        return Outcome(b"", 11, errors, None, {}, [Said("no file", ())])
     units, room = form["UNITS"], form["ROOM"]
     store = Store(units, room)
-    text, status = play(store, script, built)
+    said, status = play(store, script, built)
     # In front of the data area stand the selector, two headers, two logs of 512 pages and two
-    # areas for states. Today the program leaves them zeros.
+    # areas for states. `fresh` leaves them zeros: it writes data pages only.
     data = 1027 + 2 * room
     pages = {data + page: held for page, held in store.disk.items()}
-    return Outcome(text, status, None, PAGE * (data + UNIT * units), pages)
+    return Outcome(text_of(said), status, None, PAGE * (data + UNIT * units), pages, said)

@@ -1,9 +1,10 @@
-"""Compares the program with the model over random cases.
+"""Compares the program with the model over the worked cases and over random ones.
 
     python3 outside/run.py PROGRAM N [SEED]
     python3 outside/run.py PROGRAM N --random
 
-Runs the N cases of the seeds SEED, SEED + 1, and so on.
+Runs the N random cases of the seeds SEED, SEED + 1, and so on. At the end it counts what the
+random cases showed; a run of many must show all that there is.
 """
 
 import os
@@ -12,15 +13,19 @@ import shutil
 import subprocess
 import sys
 import tempfile
+from collections import Counter
 from pathlib import Path
 
 sys.dont_write_bytecode = True  # nothing is left beside this file
 
 import cases
+import counts
 import model
+import worked
 
 FIRST_SEED = 1_000_000
 LONGEST_RUN = 300  # seconds
+MANY = 500  # random cases, which must show every kind of answer
 CHUNK_PAGES = 256
 ZEROS = bytes(model.PAGE)
 
@@ -88,12 +93,12 @@ def run_program(program: str, case: cases.Case, folder: Path):
             return None
 
 
-def differences(program: str, case: cases.Case, folder: Path) -> list:
-    """Runs a case and gives what differs from the model, each with its first difference."""
+def differences(program: str, case: cases.Case, wanted: model.Outcome, folder: Path) -> list:
+    """Runs a case and gives what differs from the wanted outcome, each with its first
+    difference."""
     file = folder / os.fsdecode(case.words[1]) if len(case.words) > 1 else None
     if case.before is not None:
         file.write_bytes(case.before)
-    wanted = model.run(case.words, case.script, case.opens)
     done = run_program(program, case, folder)
     if done is None:
         return [f"it doesn't end in {LONGEST_RUN} seconds"]
@@ -120,12 +125,12 @@ def untouched_difference(folder: Path, file: Path, before) -> str:
     return "changed by a refused run" if before is not None and file.read_bytes() != before else ""
 
 
-def report(seed: int, case: cases.Case, found: list, kept: Path) -> None:
+def report(name: str, case: cases.Case, found: list, kept: Path) -> None:
     """Prints a failed case, and keeps its script."""
-    script = kept / f"{seed}.script"
+    script = kept / f"{name}.script"
     script.write_bytes(case.script)
     words = " ".join(repr(os.fsdecode(word)) for word in case.words)
-    print(f"seed {seed} ({case.kind}) differs\n  words: {words}\n  script: {script}")
+    print(f"{name} ({case.kind}) differs\n  words: {words}\n  script: {script}")
     for difference in found:
         print(f"  {difference}")
 
@@ -140,28 +145,60 @@ def read_arguments(arguments: list):
     return os.path.abspath(plain[0]), int(plain[1]), seed
 
 
+class Run:
+    """Cases one by one, with the counts of what came of them."""
+
+    def __init__(self, program: str, made: Path):
+        self.program = program
+        self.folder = made / "run"
+        self.kept = None  # the directory of the scripts of failed cases
+        self.passed = 0
+        self.failed = 0
+        self.shown = Counter()  # by the wanted outcomes of the random cases
+
+    def case(self, name: str, case: cases.Case, wanted: model.Outcome, faults: list) -> None:
+        """Runs a case; `faults` are those that were found before."""
+        self.folder.mkdir()
+        found = faults + differences(self.program, case, wanted, self.folder)
+        shutil.rmtree(self.folder)
+        self.failed += 1 if found else 0
+        self.passed += 0 if found else 1
+        if found:
+            self.kept = self.kept or Path(tempfile.mkdtemp(prefix="outside-failed-"))
+            report(name, case, found, self.kept)
+
+    def worked(self, number: int, one: worked.Worked) -> None:
+        case = worked.case_of(one)
+        wanted = model.run(case.words, case.script)
+        faults = [] if worked.fits(one, wanted) else ["the model isn't as it was worked out"]
+        self.case(f"worked-{number}", case, wanted, faults)
+
+    def random(self, seed: int) -> None:
+        case = cases.make(seed)
+        wanted = model.run(case.words, case.script, case.opens)
+        self.shown.update(counts.kinds(wanted))
+        self.case(f"seed-{seed}", case, wanted, [])
+
+
 def main(arguments: list) -> int:
     read = read_arguments(arguments)
     if read is None or not os.access(read[0], os.X_OK):
         print("python3 run.py PROGRAM N [SEED | --random]", file=sys.stderr)
         return 2
     program, count, first = read
-    print(f"{count} cases from seed {first}")
-    failed = 0
-    kept = None
+    print(f"{len(worked.WORKED)} worked cases, then {count} from seed {first}")
     with tempfile.TemporaryDirectory(prefix="outside-") as made:
-        folder = Path(made) / "run"
+        run = Run(program, Path(made))
+        for number, one in enumerate(worked.WORKED, start=1):
+            run.worked(number, one)
         for seed in range(first, first + count):
-            folder.mkdir()
-            case = cases.make(seed)
-            found = differences(program, case, folder)
-            if found:
-                failed += 1
-                kept = kept or Path(tempfile.mkdtemp(prefix="outside-failed-"))
-                report(seed, case, found, kept)
-            shutil.rmtree(folder)
-    print(f"{count - failed} passed, {failed} failed")
-    return 1 if failed else 0
+            run.random(seed)
+    print("the random cases showed:", *counts.table(run.shown), sep="\n")
+    missing = [kind for kind in counts.REQUIRED if not run.shown[kind]] if count >= MANY else []
+    for kind in missing:
+        print(f"never shown: {kind}")
+    print(f"{run.passed} passed, {run.failed} failed")
+    return 1 if run.failed or missing else 0
 
 
 if __name__ == "__main__":

@@ -2,7 +2,8 @@
 #![tactic(auto)]
 
 use blob_base::{Bytes64, OutOfMemory, Word};
-use blob_steps::{Form, Status, run_alone};
+use blob_script::{Form, Status};
+use blob_steps::{layout_of, run_alone};
 use disk_file::{FileDisk, OpenFailed};
 use disk_model::{Disk, MemDisk};
 use io_ends::{StdSink, StdSource};
@@ -86,8 +87,8 @@ fn turn_away(rt: &HostRuntime, words: &[Word]) -> Result<u8, OutOfMemory> {
 fn run(rt: &HostRuntime) -> Result<u8, OutOfMemory> {
     let words = words_of(rt)?;
     let words = words.as_slice();
-    match (&Form::read(words), path_of(words)) {
-        (Some(form), Some(path)) => Ok(run_fresh(rt, words, path, form.layout().total())),
+    match (Form::read(words), path_of(words)) {
+        (Some(form), Some(path)) => Ok(run_fresh(rt, words, path, layout_of(form).total())),
         _ => turn_away(rt, words),
     }
 }

@@ -3,7 +3,7 @@ use Rattle.std.proofs.Common.{IsTrue, [], sym, subst, arith}
 use Rattle.std.specs.FinMap.{FinMap}
 use Rattle.disk_model.specs.Disks.{OnlyReads}
 use Rattle.disk_model.specs.declared.disk.Disk.{Ghosts}
-use Rattle.store_model.specs.OneSession.Cost.{Reads}
+use Rattle.store_model.specs.Cost.{Reads}
 use Rattle.store_model.specs.Disk.{Image}
 use Rattle.store_model.specs.Key.{key_order}
 use Rattle.store_model.specs.Layout.{Layout}
@@ -11,7 +11,7 @@ use Rattle.store_model.specs.Space.{IsOwnedPage}
 use Rattle.store_model.specs.Standing.{AllStand}
 use Rattle.store_model.specs.Store.{Object}
 use Rattle.store_model.proofs.ImageLaws.{stayed_wrote, wrote_none}
-use Rattle.blob_steps.specs.Stores.{Did}
+use Rattle.blob_store.specs.Stores.{Did}
 
 -- nothing
 pub Did-none : {D : Type 0} (g : Ghosts D) (layout : Layout) (objects : FinMap key_order Object) (disk : D) → Did g layout objects objects [] disk disk

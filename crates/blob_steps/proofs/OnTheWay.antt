@@ -14,29 +14,34 @@ use Rattle.io_ends.specs.declared.traits.Sink as sink_trait
 use Rattle.blob_base.specs.declared.faults.IoFault.{IoFault}
 use Rattle.blob_base.specs.declared.faults.IoFault.TheVariants.{Failed, OutOfMemory}
 use Rattle.disk_model.specs.declared.disk.Disk.{Ghosts}
-use Rattle.blob_steps.specs.declared.status.Status.{Status}
-use Rattle.blob_steps.specs.declared.status.Status.TheVariants as status
+use Rattle.blob_script.specs.declared.status.Status.{Status}
+use Rattle.blob_script.specs.declared.status.Status.TheVariants as status
 use Rattle.blob_steps.specs.declared.world.World.{World}
 use Rattle.blob_steps.specs.declared.line.LineFault.{LineFault}
 use Rattle.blob_steps.specs.declared.line.LineFault.TheVariants as fault
-use Rattle.blob_steps.specs.Endings.{ending_of}
-use Rattle.blob_steps.specs.Going.{BadLine, EndsPrinting, EndsReading, EndsStep, Going, PlaysOn, SomeLine, TakesStep, after_lines, playing, reading_ending}
+use Rattle.blob_script.specs.Endings.{ending_of}
+use Rattle.blob_steps.specs.Going.{BadLine, EndsPrinting, EndsReading, EndsStep, Going, PlaysOn, TakesLine, after_lines, playing, reading_ending, step_ending}
+use Rattle.blob_steps.specs.Nexts.{IsUnbuilt}
 use Rattle.blob_steps.specs.Lines.{LineTaken, NoLine}
 use Rattle.blob_steps.specs.Runs.{Closed, Ended, IsUndamaged, KeepsEnds, MayCut, OnPlayed, PagesAre, Ran, ShowsDamage, TookFront}
-use Rattle.blob_steps.specs.Steps.{CameTo, WorldStands}
-use Rattle.blob_steps.specs.Stores.{Did}
+use Rattle.blob_steps.specs.Steps.{CameTo, HaveBegun, WorldStands}
+use Rattle.blob_store.specs.Stores.{Did}
+use Rattle.blob_store.specs.Faults.{ShowsDamageFault}
+use Rattle.blob_store.specs.declared.fault.StoreFault.{StoreFault}
+use Rattle.blob_store.specs.declared.fault.StoreFault.TheVariants as store_fault
 use Rattle.store_model.specs.Closing.{closing_text}
-use Rattle.store_model.specs.OneSession.Cost.{Spent, content_pages, syncs_of}
+use Rattle.store_model.specs.Cost.{Spent, content_pages, syncs_of}
 use Rattle.store_model.specs.Disk.{Calls}
-use Rattle.store_model.specs.OneSession.Group as model
-use Rattle.store_model.specs.OneSession.Group.{Committed, Outcome, taken_blocks, world_over}
+use Rattle.store_model.specs.World as model
+use Rattle.store_model.specs.Group.{Commit, taken_blocks}
+use Rattle.store_model.specs.World.{Outcome, world_over}
+use Rattle.store_model.specs.Placing.{new_blocks}
 use Rattle.store_model.specs.Images.{Wrote}
 use Rattle.store_model.specs.Key.{key_order}
 use Rattle.store_model.specs.Layout.{Layout}
-use Rattle.store_model.specs.OneSession.Play.{Played, PlayedLine, commits_in, line_of, play, play_steps, step_play, store_behind, taken_in, text_of}
-use Rattle.store_model.specs.OneSession.Script.{Step, Script, AtInputEnd, AtLine, step_at, steps_from, step_then}
-use Rattle.store_model.specs.Script.{lines_of}
-use Rattle.store_model.specs.Space.{Block, IsOwnedPage, blocks_of}
+use Rattle.store_model.specs.Play.{AtInputEnd, AtMalformed, AtUnbuilt, Played, PlayedLine, commits_in, line_play, play, play_lines, played_line, played_then, step_play, store_behind, taken_in, text_of}
+use Rattle.store_model.specs.Script.{Asks, Line, Malformed, Skipped, Step, line_at, lines_of}
+use Rattle.store_model.specs.Space.{Block, IsOwnedPage}
 use Rattle.store_model.specs.Standing.{AllStand}
 use Rattle.store_model.specs.Store.{Object, Store, empty_store}
 use Rattle.std.specs.FinMap.{FinMap}
@@ -48,6 +53,12 @@ pub EndsReading-fault : (one : LineFault) (number : ℕ) (left : Option (List �
 EndsReading-fault (fault.Source Failed) number left before now frugal cause = cause Failed refl
 EndsReading-fault (fault.Source OutOfMemory) number left before now frugal cause = tt
 EndsReading-fault fault.OutOfMemory number left before now frugal cause = tt
+
+-- the damage that a step shows is that of the run
+pub ShowsDamage-ending : (one : StoreFault) (objects : FinMap key_order Object) → ShowsDamageFault objects one → ShowsDamage (step_ending one) objects
+ShowsDamage-ending store_fault.Failed objects shows = tt
+ShowsDamage-ending store_fault.OutOfMemory objects shows = tt
+ShowsDamage-ending (store_fault.Damaged key link want got) objects shows = shows
 
 -- one more line
 flat_map-push : {A B : Type 0} (f : A → List B) (xs : List A) (x : A) → flat_map f (xs ++ x ∷ []) ≡ flat_map f xs ++ f x
@@ -62,26 +73,38 @@ commits_in-push lines line = flat_map-push (λ (l : PlayedLine). l.commits) line
 taken_in-push : (lines : List PlayedLine) (line : PlayedLine) → taken_in (lines ++ line ∷ []) ≡ taken_in lines ++ taken_blocks line.commits
 taken_in-push lines line =
     ap taken_blocks (commits_in-push lines line)
-    ∙ flat_map-append (λ (commit : Committed). flat_map blocks_of commit.places) (commits_in lines) line.commits
+    ∙ flat_map-append (λ (commit : Commit). flat_map new_blocks commit.placed) (commits_in lines) line.commits
 
 store_behind-push : (start : Store) (lines : List PlayedLine) (line : PlayedLine) → store_behind start (lines ++ line ∷ []) ≡ line.store
 store_behind-push start [] line = refl
 store_behind-push start (one ∷ lines) line = store_behind-push one.store lines line
 
--- the play of what is left, where its first line asks for a step
-playing-step : (layout : Layout) (number : ℕ) (world : model.World) (line : List ℕ) (lines : List (List ℕ)) (step : Step) → step_at number line ≡ Some step
-    → playing layout number world (line ∷ lines)
-    ≡ after_lines (line_of (step_play layout world step) ∷ []) (playing layout (number + 1) (step_play layout world step).world lines)
-playing-step layout number world line lines step asks =
-    let steps : Option Step → Script = λ found. step_then number found (steps_from (number + 1) lines) in
-    ap (λ found. record { lines = play_steps layout world (steps found).steps; end = (steps found).end }) asks
+-- the play of what is left, where its first line asks for a step that has this outcome
+playing-step : (layout : Layout) (number : ℕ) (world : model.World) (line : List ℕ) (lines : List (List ℕ)) (step : Step) (outcome : Outcome)
+    → line_at number line ≡ Asks step → step_play layout world step ≡ Some outcome
+    → playing layout number world (line ∷ lines) ≡ after_lines (played_line outcome ∷ []) (playing layout (number + 1) outcome.world lines)
+playing-step layout number world line lines step outcome asks plays =
+    ap (λ (what : Line). line_play layout world number what (play_lines layout (number + 1) lines)) asks
+    ∙ ap (λ (found : Option Outcome). played_then number found (play_lines layout (number + 1) lines)) plays
 
--- where its first line is none that is built
-playing-bad : (layout : Layout) (number : ℕ) (world : model.World) (line : List ℕ) (lines : List (List ℕ)) → step_at number line ≡ None
-    → playing layout number world (line ∷ lines) ≡ record { lines = []; end = AtLine number }
-playing-bad layout number world line lines asks =
-    let steps : Option Step → Script = λ found. step_then number found (steps_from (number + 1) lines) in
-    ap (λ found. record { lines = play_steps layout world (steps found).steps; end = (steps found).end }) asks
+-- where its verb isn't built
+playing-unbuilt : (layout : Layout) (number : ℕ) (world : model.World) (line : List ℕ) (lines : List (List ℕ)) (step : Step)
+    → line_at number line ≡ Asks step → step_play layout world step ≡ None → playing layout number world (line ∷ lines) ≡ record { lines = []; end = AtUnbuilt number }
+playing-unbuilt layout number world line lines step asks plays =
+    ap (λ (what : Line). line_play layout world number what (play_lines layout (number + 1) lines)) asks
+    ∙ ap (λ (found : Option Outcome). played_then number found (play_lines layout (number + 1) lines)) plays
+
+-- where its first line is skipped
+playing-skipped : (layout : Layout) (number : ℕ) (world : model.World) (line : List ℕ) (lines : List (List ℕ)) → line_at number line ≡ Skipped
+    → playing layout number world (line ∷ lines) ≡ playing layout (number + 1) world lines
+playing-skipped layout number world line lines is =
+    ap (λ (what : Line). line_play layout world number what (play_lines layout (number + 1) lines)) is
+
+-- where it is malformed
+playing-bad : (layout : Layout) (number : ℕ) (world : model.World) (line : List ℕ) (lines : List (List ℕ)) → line_at number line ≡ Malformed
+    → playing layout number world (line ∷ lines) ≡ record { lines = []; end = AtMalformed number }
+playing-bad layout number world line lines is =
+    ap (λ (what : Line). line_play layout world number what (play_lines layout (number + 1) lines)) is
 
 -- some lines, and then more, before a play
 after_lines-twice : (one two : List PlayedLine) (played : Played) → after_lines one (after_lines two played) ≡ after_lines (one ++ two) played
@@ -92,20 +115,33 @@ taken_rest : (script line : List ℕ) (left : Option (List ℕ)) → LineTaken (
 taken_rest script line None taken = absurd taken
 taken_rest script line (Some rest) taken = (rest, refl, taken)
 
--- where the first line was taken, what is left plays on behind it
-PlaysOn-next : (layout : Layout) (start : Store) (lines : List PlayedLine) (number : ℕ) (world : model.World) (first left rest : Option (List ℕ)) (step : Step)
-    → TakesStep number left rest step → PlaysOn layout start lines number world first left
-    → PlaysOn layout start (lines ++ line_of (step_play layout world step) ∷ []) (number + 1) (step_play layout world step).world first rest
-PlaysOn-next layout start lines number world first left rest step takes plays script known =
+-- where the first line asked for a step that has this outcome, what is left plays on behind it
+PlaysOn-next : (layout : Layout) (start : Store) (lines : List PlayedLine) (number : ℕ) (world : model.World) (first left rest : Option (List ℕ)) (step : Step) (outcome : Outcome)
+    → TakesLine number left rest (Asks step) → step_play layout world step ≡ Some outcome → PlaysOn layout start lines number world first left
+    → PlaysOn layout start (lines ++ played_line outcome ∷ []) (number + 1) outcome.world first rest
+PlaysOn-next layout start lines number world first left rest step outcome takes played plays script known =
     let on = plays script known in
     let taken : LineTaken (Some on.0) takes.line rest = subst (λ l. LineTaken l takes.line rest) on.1 takes.taken in
     let behind = taken_rest on.0 takes.line rest taken in
-    let outcome : Outcome = step_play layout world step in
     let later : Played = playing layout (number + 1) outcome.world (lines_of behind.0) in (
       behind.0,
       behind.1,
-      sym (after_lines-twice lines (line_of outcome ∷ []) later)
-          ∙ ap (after_lines lines) (sym (playing-step layout number world takes.line (lines_of behind.0) step takes.asks))
+      sym (after_lines-twice lines (played_line outcome ∷ []) later)
+          ∙ ap (after_lines lines) (sym (playing-step layout number world takes.line (lines_of behind.0) step outcome takes.is played))
+          ∙ ap (λ ls. after_lines lines (playing layout number world ls)) (sym behind.2)
+          ∙ on.2,
+    )
+
+-- where it was skipped
+PlaysOn-skipped : (layout : Layout) (start : Store) (lines : List PlayedLine) (number : ℕ) (world : model.World) (first left rest : Option (List ℕ))
+    → TakesLine number left rest Skipped → PlaysOn layout start lines number world first left → PlaysOn layout start lines (number + 1) world first rest
+PlaysOn-skipped layout start lines number world first left rest takes plays script known =
+    let on = plays script known in
+    let taken : LineTaken (Some on.0) takes.line rest = subst (λ l. LineTaken l takes.line rest) on.1 takes.taken in
+    let behind = taken_rest on.0 takes.line rest taken in (
+      behind.0,
+      behind.1,
+      ap (after_lines lines) (sym (playing-skipped layout number world takes.line (lines_of behind.0) takes.is))
           ∙ ap (λ ls. after_lines lines (playing layout number world ls)) (sym behind.2)
           ∙ on.2,
     )
@@ -163,30 +199,30 @@ Spent-next lines line was now newer spent writes syncs =
 
 -- a run that goes on by a step
 module _ {D : Type 0} (g : Ghosts D) (start : Store) (mine later : World) (number : ℕ) (first left rest old taken : Option (List ℕ)) (was now newer : D)
-    (step : Step) (text : List ℕ) (going : Going g start mine number first left old taken was now) (takes : TakesStep number left rest step)
-    (same : later.store.layout ≡ mine.store.layout)
-    (came : CameTo g going.world (step_play later.store.layout going.world step) text later now newer) where
+    (step : Step) (text : List ℕ) (going : Going g start mine number first left old taken was now) (takes : TakesLine number left rest (Asks step))
+    (same : later.store.layout ≡ mine.store.layout) (outcome : Outcome) (played : step_play mine.store.layout going.world step ≡ Some outcome)
+    (came : CameTo g going.world outcome text later now newer) where
   -- the lines with that of the step
   abbrev lines_with : List PlayedLine
-  lines_with = going.lines ++ line_of (step_play later.store.layout going.world step) ∷ []
+  lines_with = going.lines ++ played_line outcome ∷ []
 
   pages-now : IsTrue g.tells → PagesAre g later.store.layout start going.lines was now
   pages-now told = subst (λ (l : Layout). PagesAre g l start going.lines was now) (sym same) (going.pages told)
 
-  text-now : IsTrue g.tells → text ≡ (step_play later.store.layout going.world step).text
+  text-now : IsTrue g.tells → text ≡ outcome.text
   text-now told =
       came.text_is told (subst (λ (s : Store). AllStand (g.story now).reads later.store.layout s.objects) (sym going.store_is) (pages-now told).objects)
 
-  plays-later : PlaysOn later.store.layout start lines_with (number + 1) (step_play later.store.layout going.world step).world first rest
+  plays-later : PlaysOn later.store.layout start lines_with (number + 1) outcome.world first rest
   plays-later =
-      PlaysOn-next later.store.layout start going.lines number going.world first left rest step takes
-      (subst (λ (l : Layout). PlaysOn l start going.lines number going.world first left) (sym same) going.plays_on)
+      subst (λ (l : Layout). PlaysOn l start lines_with (number + 1) outcome.world first rest) (sym same)
+      (PlaysOn-next mine.store.layout start going.lines number going.world first left rest step outcome takes played going.plays_on)
 
   pub Going-next : (more : Option (List ℕ)) → Appends taken more text → Going g start later (number + 1) first rest old more was newer
   Going-next more took =
-      let line : PlayedLine = line_of (step_play later.store.layout going.world step) in
+      let line : PlayedLine = played_line outcome in
       record {
-        world = (step_play later.store.layout going.world step).world;
+        world = outcome.world;
         stands = came.stands;
         lines = lines_with;
         store_is = sym (store_behind-push start going.lines line);
@@ -202,7 +238,7 @@ module _ {D : Type 0} (g : Ghosts D) (start : Store) (mine later : World) (numbe
   -- the sink took a front of what the lines print with that of the step
   TookFront-cut : (more : Option (List ℕ)) (gone : ℕ) → IsTrue g.tells → Appends taken more (take gone text) → TookFront old more (text_of lines_with)
   TookFront-cut more gone told took =
-      let line : PlayedLine = line_of (step_play later.store.layout going.world step) in
+      let line : PlayedLine = played_line outcome in
       record {
         text = text_of going.lines ++ take gone text;
         took = Appends-trans old taken more (text_of going.lines) (take gone text) (going.took told) took;
@@ -218,7 +254,7 @@ module _ {D : Type 0} (g : Ghosts D) (start : Store) (mine later : World) (numbe
       → (script : List ℕ) → first ≡ Some script → (more : List PlayedLine) × ((play layout start script).lines ≡ lines_with ++ more)
   lines-front layout is script known =
       subst (λ (l : Layout). (more : List PlayedLine) × ((play l start script).lines ≡ lines_with ++ more)) (sym is)
-      (PlaysOn-front later.store.layout start lines_with (number + 1) (step_play later.store.layout going.world step).world first rest plays-later script known)
+      (PlaysOn-front later.store.layout start lines_with (number + 1) outcome.world first rest plays-later script known)
 
   -- a run that ends with this status in the printing of the step's answer
   cut-short : (one : Status) (more : Option (List ℕ)) (gone : ℕ) (frugal : Bool) → Appends taken more (take gone text) → MayCut one frugal
@@ -245,6 +281,7 @@ module _ {D : Type 0} (g : Ghosts D) (start : Store) (mine later : World) (numbe
       (lines-front mine.store.layout (sym same)) tt (λ told. tt)
   Ended-printing status.OutOfMemory more gone frugal before since took ends = cut-short status.OutOfMemory more gone frugal took ends (λ told. tt) (λ told. tt)
       (lines-front mine.store.layout (sym same)) tt (λ told. tt)
+  Ended-printing (status.Malformed line) more gone frugal before since took ends = absurd ends
   Ended-printing (status.NotBuilt line) more gone frugal before since took ends = absurd ends
   Ended-printing status.ReadFault more gone frugal before since took ends = absurd ends
   Ended-printing status.Done more gone frugal before since took ends = absurd ends
@@ -292,13 +329,13 @@ module _ {D : Type 0} (g : Ghosts D) (start : Store) (mine : World) (number : �
     whole = λ told. tt;
   }
 
-  pub Ended-bad : (frugal : Bool) → BadLine number left → Ended g mine.store.layout start frugal first old taken was now (status.NotBuilt number)
+  pub Ended-bad : (frugal : Bool) → BadLine number left → Ended g mine.store.layout start frugal first old taken was now (status.Malformed number)
   Ended-bad frugal bad = record {
     lines = going.lines;
     ran = λ script known.
         let on = going.plays_on script known in
         let line : BadLine number (Some on.0) = subst (BadLine number) on.1 bad in
-        PlaysOn-all mine.store.layout start going.lines number going.world first left script going.plays_on known (record { lines = []; end = AtLine number })
+        PlaysOn-all mine.store.layout start going.lines number going.world first left script going.plays_on known (record { lines = []; end = AtMalformed number })
         (ap (playing mine.store.layout number going.world) line.2 ∙ playing-bad mine.store.layout number going.world line.0 line.1 line.3) refl;
     grew = going.grew;
     took = λ told. inl (going.took told);
@@ -308,10 +345,43 @@ module _ {D : Type 0} (g : Ghosts D) (start : Store) (mine : World) (number : �
     whole = λ told. tt;
   }
 
+  pub Ended-unbuilt : (frugal : Bool) (step : Step) (rest : Option (List ℕ)) → TakesLine number left rest (Asks step)
+      → step_play mine.store.layout going.world step ≡ None → Ended g mine.store.layout start frugal first old taken was now (status.NotBuilt number)
+  Ended-unbuilt frugal step rest takes none = record {
+    lines = going.lines;
+    ran = λ script known.
+        let on = going.plays_on script known in
+        let taken : LineTaken (Some on.0) takes.line rest = subst (λ l. LineTaken l takes.line rest) on.1 takes.taken in
+        let behind = taken_rest on.0 takes.line rest taken in
+        PlaysOn-all mine.store.layout start going.lines number going.world first left script going.plays_on known (record { lines = []; end = AtUnbuilt number })
+        (ap (playing mine.store.layout number going.world) behind.2 ∙ playing-unbuilt mine.store.layout number going.world takes.line (lines_of behind.0) step takes.is none) refl;
+    grew = going.grew;
+    took = λ told. inl (going.took told);
+    pages = going.pages;
+    counts = going.counts;
+    damage = tt;
+    whole = λ told. tt;
+  }
+
+  pub Going-skipped : (later : World) (rest : Option (List ℕ)) → TakesLine number left rest Skipped → later ≡ mine
+      → Going g start later (number + 1) first rest old taken was now
+  Going-skipped later rest takes same = subst (λ (m : World). Going g start m (number + 1) first rest old taken was now) (sym same) (record {
+    world = going.world;
+    stands = going.stands;
+    lines = going.lines;
+    store_is = going.store_is;
+    grew = going.grew;
+    took = going.took;
+    pages = going.pages;
+    counts = going.counts;
+    plays_on = PlaysOn-skipped mine.store.layout start going.lines number going.world first left rest takes going.plays_on;
+  })
+
   pub Ended-reading : (one : Status) (frugal : Bool) (before since : ℕ) → EndsReading one number left before since
       → Ended g mine.store.layout start frugal first old taken was now one
-  Ended-reading (status.NotBuilt line) frugal before since ends =
-      subst (λ (n : ℕ). Ended g mine.store.layout start frugal first old taken was now (status.NotBuilt n)) (sym ends.0) (Ended-bad frugal ends.1)
+  Ended-reading (status.Malformed line) frugal before since ends =
+      subst (λ (n : ℕ). Ended g mine.store.layout start frugal first old taken was now (status.Malformed n)) (sym ends.0) (Ended-bad frugal ends.1)
+  Ended-reading (status.NotBuilt line) frugal before since ends = absurd ends
   Ended-reading status.ReadFault frugal before since ends = ended-here status.ReadFault now frugal (λ told. tt) (λ told. tt) lines-before tt (λ told. tt)
   Ended-reading status.OutOfMemory frugal before since ends = ended-here status.OutOfMemory now frugal (λ told. tt) (λ told. tt) lines-before tt (λ told. tt)
   Ended-reading status.Done frugal before since ends = absurd ends
@@ -322,11 +392,12 @@ module _ {D : Type 0} (g : Ghosts D) (start : Store) (mine : World) (number : �
   Ended-reading (status.Damaged key link want got) frugal before since ends = absurd ends
 
   -- a step had no answer
-  pub Ended-step : (one : Status) (newer : D) (frugal : Bool) (before since : ℕ) → EndsStep one before since → ShowsDamage one going.world.store.objects
+  pub Ended-step : (one : Status) (newer : D) (frugal : Bool) (before since : ℕ) (step : Step) (rest : Option (List ℕ)) → TakesLine number left rest (Asks step)
+      → IsUnbuilt mine.store.layout going.world step number now newer one → EndsStep one before since → ShowsDamage one going.world.store.objects
       → (IsTrue g.tells → IsUndamaged one) → Ended g mine.store.layout start frugal first old taken was newer one
-  Ended-step status.DiskFault newer frugal before since ends shows undamaged = ended-here status.DiskFault newer frugal (λ told. tt) (λ told. tt) lines-before tt (λ told. tt)
-  Ended-step status.OutOfMemory newer frugal before since ends shows undamaged = ended-here status.OutOfMemory newer frugal (λ told. tt) (λ told. tt) lines-before tt (λ told. tt)
-  Ended-step (status.Damaged key link want got) newer frugal before since ends shows undamaged = record {
+  Ended-step status.DiskFault newer frugal before since step rest takes unbuilt ends shows undamaged = ended-here status.DiskFault newer frugal (λ told. tt) (λ told. tt) lines-before tt (λ told. tt)
+  Ended-step status.OutOfMemory newer frugal before since step rest takes unbuilt ends shows undamaged = ended-here status.OutOfMemory newer frugal (λ told. tt) (λ told. tt) lines-before tt (λ told. tt)
+  Ended-step (status.Damaged key link want got) newer frugal before since step rest takes unbuilt ends shows undamaged = record {
     lines = going.lines;
     ran = lines-before;
     grew = going.grew;
@@ -336,12 +407,16 @@ module _ {D : Type 0} (g : Ghosts D) (start : Store) (mine : World) (number : �
     damage = subst (λ (s : Store). ShowsDamage (status.Damaged key link want got) s.objects) going.store_is shows;
     whole = undamaged;
   }
-  Ended-step (status.NotBuilt line) newer frugal before since ends shows undamaged = absurd ends
-  Ended-step status.ReadFault newer frugal before since ends shows undamaged = absurd ends
-  Ended-step status.Done newer frugal before since ends shows undamaged = absurd ends
-  Ended-step status.WriteFault newer frugal before since ends shows undamaged = absurd ends
-  Ended-step (status.Refused why) newer frugal before since ends shows undamaged = absurd ends
-  Ended-step status.Usage newer frugal before since ends shows undamaged = absurd ends
+  Ended-step (status.Malformed line) newer frugal before since step rest takes unbuilt ends shows undamaged = absurd ends
+  Ended-step (status.NotBuilt line) newer frugal before since step rest takes unbuilt ends shows undamaged =
+      subst (λ (n : ℕ). Ended g mine.store.layout start frugal first old taken was newer (status.NotBuilt n)) (sym unbuilt.0)
+      (subst (λ (d : D). Ended g mine.store.layout start frugal first old taken was d (status.NotBuilt number)) (sym unbuilt.2)
+      (Ended-unbuilt frugal step rest takes unbuilt.1))
+  Ended-step status.ReadFault newer frugal before since step rest takes unbuilt ends shows undamaged = absurd ends
+  Ended-step status.Done newer frugal before since step rest takes unbuilt ends shows undamaged = absurd ends
+  Ended-step status.WriteFault newer frugal before since step rest takes unbuilt ends shows undamaged = absurd ends
+  Ended-step (status.Refused why) newer frugal before since step rest takes unbuilt ends shows undamaged = absurd ends
+  Ended-step status.Usage newer frugal before since step rest takes unbuilt ends shows undamaged = absurd ends
 
   -- the objects stand where the run is
   pub stand-now : IsTrue g.tells → AllStand (g.story now).reads mine.store.layout going.world.store.objects
@@ -351,6 +426,10 @@ module _ {D : Type 0} (g : Ghosts D) (start : Store) (mine : World) (number : �
 pub EndsReading-ended : (one : Status) (why : LineFault) (number : ℕ) (left : Option (List ℕ)) (before now : ℕ) (frugal : Bool) → one ≡ reading_ending why
     → ((cause : IoFault) → why ≡ fault.Source cause → CameFrom cause before now frugal) → EndsReading one number left before now
 EndsReading-ended one why number left before now frugal is cause = subst (λ s. EndsReading s number left before now) (sym is) (EndsReading-fault why number left before now frugal cause)
+
+-- no session has begun more than a greater number
+pub HaveBegun-more : (mine : World) (n m : ℕ) → HaveBegun n mine → n ≤ m → HaveBegun m mine
+HaveBegun-more mine n m have less = λ number one is. omega (arith, have number one is, less)
 
 -- a run that begins
 pub Going-first : {D : Type 0} (g : Ghosts D) (mine : World) (first taken : Option (List ℕ)) (disk : D) → WorldStands mine (world_over empty_store)
@@ -367,14 +446,10 @@ Going-first g mine first taken disk stands = record {
   plays_on = λ script known. (script, known, refl);
 }
 
--- a seventeenth line is none that is built
-pub BadLine-seventeen : (left : Option (List ℕ)) → SomeLine left → BadLine 17 left
-BadLine-seventeen None some = tt
-BadLine-seventeen (Some script) some = (some.0, some.1, some.2, refl)
-
 closing_whole : (one : Status) (frugal : Bool) (before now : ℕ) → EndsPrinting one frugal before now → Rose before now ⊎ (frugal ≡ false)
 closing_whole status.WriteFault frugal before now ends = inl ends
 closing_whole status.OutOfMemory frugal before now ends = inr ends
+closing_whole (status.Malformed line) frugal before now ends = absurd ends
 closing_whole (status.NotBuilt line) frugal before now ends = absurd ends
 closing_whole status.ReadFault frugal before now ends = absurd ends
 closing_whole status.Done frugal before now ends = absurd ends

@@ -11,14 +11,14 @@ use Rattle.blob_base.specs.declared.faults.StoreRefusal.TheVariants.{TooSmall}
 use Rattle.disk_model.specs.declared.disk.Disk as disk_trait
 use Rattle.io_ends.specs.declared.traits.Source as source_trait
 use Rattle.io_ends.specs.declared.traits.Sink as sink_trait
-use Rattle.blob_steps.specs.declared.status.Status.{Status}
-use Rattle.blob_steps.specs.declared.status.Status.TheVariants as status
+use Rattle.blob_script.specs.declared.status.Status.{Status}
+use Rattle.blob_script.specs.declared.status.Status.TheVariants as status
 use Rattle.blob_steps.specs.Going.{IsAccepted}
 use Rattle.blob_steps.specs.Runs.{Closed, Counts, Ended, EndedBy, Grew, IsRaised, IsTooSmall, IsTurnedAway, IsUndamaged, KeepsEnds, OnPlayed, PagesAre, Ran, Run, ShowsDamage, TookLines, counts_of, layout_of}
-use Rattle.store_model.specs.OneSession.Cost.{Spent}
+use Rattle.store_model.specs.Cost.{Spent}
 use Rattle.store_model.specs.Form.{Form, IsForm, IsNoForm}
 use Rattle.store_model.specs.Layout.{Layout, total_pages}
-use Rattle.store_model.specs.OneSession.Play.{PlayedLine, play, store_behind}
+use Rattle.store_model.specs.Play.{PlayedLine, play, store_behind}
 use Rattle.store_model.specs.Store.{empty_store}
 use Rattle.blob_steps.proofs.CommandWords.{same_form}
 use Rattle.blob_steps.proofs.OnTheWay.{Closed-since}
@@ -62,6 +62,7 @@ record RunLines {D : Type 0} (g : disk_trait.Ghosts D) (words : List (List ℕ))
 lines_none : {D : Type 0} (g : disk_trait.Ghosts D) (words : List (List ℕ)) (frugal : Bool) (left old new : Option (List ℕ)) (was now : D) (how : Status)
     → IsTurnedAway how → new ≡ old → RunLines g words frugal left old new was now how
 lines_none g words frugal left old new was now status.Done away same = absurd away
+lines_none g words frugal left old new was now (status.Malformed line) away same = absurd away
 lines_none g words frugal left old new was now (status.NotBuilt line) away same = absurd away
 lines_none g words frugal left old new was now status.ReadFault away same = absurd away
 lines_none g words frugal left old new was now status.WriteFault away same = absurd away
@@ -114,6 +115,7 @@ lines_by g words frugal left old new was now how alone (inr run) =
 raised_until : (how : Status) (before now last : Counts) → now.source ≤ last.source → now.sink ≤ last.sink → now.disk ≤ last.disk → IsRaised how before now
     → IsRaised how before last
 raised_until status.Done before now last source sink disk rose = tt
+raised_until (status.Malformed line) before now last source sink disk rose = tt
 raised_until (status.NotBuilt line) before now last source sink disk rose = tt
 raised_until status.ReadFault before now last source sink disk rose = Rose-until before.source now.source last.source rose source
 raised_until status.WriteFault before now last source sink disk rose = Rose-until before.sink now.sink last.sink rose sink

@@ -4,43 +4,37 @@ use Rattle.std.specs.Io.KnownBytes.{Appends}
 use Rattle.blob_base.specs.Faults.{Rose}
 use Rattle.blob_base.specs.declared.faults.IoFault.TheVariants.{Failed, OutOfMemory}
 use Rattle.disk_model.specs.declared.disk.Disk.{Ghosts}
-use Rattle.blob_steps.specs.declared.fault.StepFault.{StepFault}
-use Rattle.blob_steps.specs.declared.fault.StepFault.TheVariants as fault
+use Rattle.blob_store.specs.declared.fault.StoreFault.{StoreFault}
+use Rattle.blob_store.specs.declared.fault.StoreFault.TheVariants as fault
 use Rattle.blob_steps.specs.declared.line.LineFault.{LineFault}
 use Rattle.blob_steps.specs.declared.line.LineFault.TheVariants as line
-use Rattle.blob_steps.specs.declared.status.Status.{Status}
-use Rattle.blob_steps.specs.declared.status.Status.TheVariants as status
+use Rattle.blob_script.specs.declared.status.Status.{Status}
+use Rattle.blob_script.specs.declared.status.Status.TheVariants as status
 use Rattle.blob_steps.specs.declared.world.World.{World}
 use Rattle.blob_steps.specs.Lines.{LineTaken}
 use Rattle.blob_steps.specs.Runs.{Grew, PagesAre}
 use Rattle.blob_steps.specs.Steps.{WorldStands}
-use Rattle.store_model.specs.OneSession.Cost.{Spent}
-use Rattle.store_model.specs.OneSession.Group as model
+use Rattle.store_model.specs.Cost.{Spent}
 use Rattle.store_model.specs.Layout.{Layout}
-use Rattle.store_model.specs.OneSession.Play.{Played, PlayedLine, play, play_steps, store_behind, text_of}
-use Rattle.store_model.specs.OneSession.Script.{Step, step_at, steps_from}
-use Rattle.store_model.specs.Script.{lines_of}
+use Rattle.store_model.specs.Play.{Played, PlayedLine, play, play_lines, store_behind, text_of}
+use Rattle.store_model.specs.Script.{Line, Malformed, lines_of, line_at}
 use Rattle.store_model.specs.Store.{Store}
+use Rattle.store_model.specs.World as model
 
--- the first line that is left asks for this step
-pub record TakesStep (number : ℕ) (old new : Option (List ℕ)) (step : Step) : Type 0 where
+-- the first line that is left is this, for the line of this number
+pub record TakesLine (number : ℕ) (old new : Option (List ℕ)) (what : Line) : Type 0 where
   pub line : List ℕ
   pub taken : LineTaken old line new
-  pub asks : step_at number line ≡ Some step
+  pub is : line_at number line ≡ what
 
--- the first line that is left is none of those that are built
+-- the first line that is left is malformed
 abbrev pub BadLine : ℕ → Option (List ℕ) → Type 0
 BadLine number None = ⊤
-BadLine number (Some script) = (line : List ℕ) × (rest : List (List ℕ)) × (lines_of script ≡ line ∷ rest) × (step_at number line ≡ None)
-
--- some line is left
-abbrev pub SomeLine : Option (List ℕ) → Type 0
-SomeLine None = ⊤
-SomeLine (Some script) = (line : List ℕ) × (rest : List (List ℕ)) × (lines_of script ≡ line ∷ rest)
+BadLine number (Some script) = (line : List ℕ) × (rest : List (List ℕ)) × (lines_of script ≡ line ∷ rest) × (line_at number line ≡ Malformed)
 
 -- the play of lines from this number on, from this world on
 abbrev pub playing : Layout → ℕ → model.World → List (List ℕ) → Played
-playing layout number world lines = record { lines = play_steps layout world (steps_from number lines).steps; end = (steps_from number lines).end }
+playing layout number world lines = play_lines layout number lines world
 
 -- some lines, and then a play
 abbrev pub after_lines : List PlayedLine → Played → Played
@@ -67,7 +61,7 @@ pub record Going {D : Type 0} (g : Ghosts D) (start : Store) (mine : World) (num
 
 -- what ends the reading of a line, other than well
 abbrev pub EndsReading : Status → ℕ → Option (List ℕ) → ℕ → ℕ → Type 0
-EndsReading (status.NotBuilt line) number left before now = (line ≡ number) × BadLine number left
+EndsReading (status.Malformed line) number left before now = (line ≡ number) × BadLine number left
 EndsReading status.ReadFault number left before now = Rose before now
 EndsReading status.OutOfMemory number left before now = ⊤
 EndsReading _ number left before now = ⊥
@@ -75,6 +69,7 @@ EndsReading _ number left before now = ⊥
 -- what ends a step, other than well
 abbrev pub EndsStep : Status → ℕ → ℕ → Type 0
 EndsStep status.DiskFault before now = Rose before now
+EndsStep (status.NotBuilt line) before now = ⊤
 EndsStep status.OutOfMemory before now = ⊤
 EndsStep (status.Damaged key link want got) before now = ⊤
 EndsStep _ before now = ⊥
@@ -86,7 +81,7 @@ EndsPrinting status.OutOfMemory frugal before now = frugal ≡ false
 EndsPrinting _ frugal before now = ⊥
 
 -- what a step without an answer ends a run with
-abbrev pub step_ending : StepFault → Status
+abbrev pub step_ending : StoreFault → Status
 step_ending fault.Failed = status.DiskFault
 step_ending fault.OutOfMemory = status.OutOfMemory
 step_ending (fault.Damaged key link want got) = status.Damaged key link want got

@@ -1,13 +1,6 @@
-pub mod Words
-pub mod Endings
-pub mod Answers
 pub mod Lines
-pub mod Coding
 pub mod Sessions
-pub mod Faults
-pub mod Fitting
-pub mod Places
-pub mod Stores
 pub mod Steps
 pub mod Runs
 pub mod Going
+pub mod Nexts

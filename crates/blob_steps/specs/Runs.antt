@@ -9,17 +9,16 @@ use Rattle.disk_model.specs.Disks.{Keeps}
 use Rattle.disk_model.specs.declared.disk.Disk as disk_trait
 use Rattle.io_ends.specs.declared.traits.Source as source_trait
 use Rattle.io_ends.specs.declared.traits.Sink as sink_trait
-use Rattle.blob_steps.specs.declared.status.Status.{Status}
-use Rattle.blob_steps.specs.declared.status.Status.TheVariants as status
-use Rattle.blob_steps.specs.Endings.{ending_of}
+use Rattle.blob_script.specs.declared.status.Status.{Status}
+use Rattle.blob_script.specs.declared.status.Status.TheVariants as status
+use Rattle.blob_script.specs.Endings.{ending_of}
 use Rattle.store_model.specs.Closing.{closing_text}
-use Rattle.store_model.specs.OneSession.Cost.{Spent}
+use Rattle.store_model.specs.Cost.{Spent}
 use Rattle.store_model.specs.Form.{Form, Fresh, IsForm, IsNoForm}
 use Rattle.store_model.specs.Images.{Wrote}
 use Rattle.store_model.specs.Key.{key_order}
 use Rattle.store_model.specs.Layout.{Layout, total_pages}
-use Rattle.store_model.specs.OneSession.Play.{Played, PlayedLine, play, store_behind, taken_in, text_of}
-use Rattle.store_model.specs.OneSession.Script.{AtInputEnd, AtLine}
+use Rattle.store_model.specs.Play.{AtInputEnd, AtMalformed, AtUnbuilt, Played, PlayedLine, play, store_behind, taken_in, text_of}
 use Rattle.store_model.specs.Space.{IsOwnedPage}
 use Rattle.store_model.specs.Standing.{AllStand, IsDamaged}
 use Rattle.store_model.specs.Store.{Object, Store, empty_store}
@@ -56,13 +55,15 @@ IsTurnedAway _ = ⊥
 -- a status with which a script was run to its end
 abbrev pub OnPlayed : Status → Type 0 → Type 0
 OnPlayed status.Done P = P
+OnPlayed (status.Malformed line) P = P
 OnPlayed (status.NotBuilt line) P = P
 OnPlayed _ P = ⊤
 
 -- These lines of a play were run: all of them where the run came to the end that the play has, and else the first ones.
 abbrev pub Ran : Status → List PlayedLine → Played → Type 0
 Ran status.Done lines whole = (lines ≡ whole.lines) × (whole.end ≡ AtInputEnd)
-Ran (status.NotBuilt line) lines whole = (lines ≡ whole.lines) × (whole.end ≡ AtLine line)
+Ran (status.Malformed line) lines whole = (lines ≡ whole.lines) × (whole.end ≡ AtMalformed line)
+Ran (status.NotBuilt line) lines whole = (lines ≡ whole.lines) × (whole.end ≡ AtUnbuilt line)
 Ran _ lines whole = (rest : List PlayedLine) × (whole.lines ≡ lines ++ rest)
 
 -- `front` is the front of `whole`

@@ -1,38 +1,34 @@
 // The run of a command line over a source, a sink and a disk.
 
-ghost use Rattle.std.specs.Prelude.{◌≡◌, ◌≢◌, ◌⊎◌, ◌↔◌, ◌<◌, ◌≤◌, ◌++◌, ◌+◌, ℕ, [], List, Option, Some, None, Ok, Err, take, length, OnOk, OnErr, IfOk, IfErr, IfSome, MatchBool, MatchOption, MatchResult, IsTrue, true, false};
+ghost use Rattle.std.specs.Prelude.{◌≡◌, ◌≢◌, ◌⊎◌, ◌↔◌, ◌<◌, ◌≤◌, ◌++◌, ◌+◌, ◌^◌, ℕ, [], List, Option, Some, None, Ok, Err, take, length, OnOk, OnErr, IfOk, IfErr, IfSome, MatchBool, MatchOption, MatchResult, IsTrue, true, false};
 ghost use Rattle.std.specs.Io.KnownBytes.{prepend_known, Appends};
 ghost use Rattle.blob_base.specs.Faults.{KeepsEnd};
 ghost use Rattle.blob_base.specs.declared.faults.StoreRefusal.{StoreRefusal};
 ghost use Rattle.blob_base.specs.declared.faults.StoreRefusal.TheVariants.{TooSmall};
 ghost use Rattle.disk_model.specs.Disks.{Keeps};
-ghost use Rattle.store_model.specs.Form.{IsNoForm};
+ghost use Rattle.store_model.specs.Form.{IsForm, IsNoForm};
 ghost use Rattle.store_model.specs.Layout.{total_pages};
-ghost use Rattle.store_model.specs.OneSession.Group.{World as ModelWorld, world_over};
-ghost use Rattle.store_model.specs.OneSession.Play.{step_play};
+ghost use Rattle.store_model.specs.Script.{line_at};
+ghost use Rattle.store_model.specs.World.{World as ModelWorld, world_over};
 ghost use Rattle.store_model.specs.Standing.{AllStand};
 ghost use Rattle.store_model.specs.Store.{Store as ModelStore, empty_store};
-ghost use Rattle.blob_steps.specs.Steps.{CameTo, IsPlayed, WorldStands, weight};
-ghost use Rattle.blob_steps.specs.Words.{model_step};
-ghost use Rattle.blob_steps.specs.Answers.{line_of_answer};
-ghost use Rattle.blob_steps.specs.Lines.{NoLine};
-ghost use Rattle.blob_steps.specs.Stores.{IsSound};
-ghost use Rattle.blob_steps.specs.Runs.{Closed, Ended, EndedBy, IsRaised, IsTooSmall, IsTurnedAway, IsUndamaged, KeepsEnds, Run as WholeRun, ShowsDamage, counts_of};
-ghost use Rattle.blob_steps.specs.Going.{EndsPrinting, EndsReading, EndsStep, Going, IsAccepted, IsRunning, SomeLine, TakesStep, reading_ending, step_ending};
+ghost use Rattle.blob_script.specs.Words.{IsSession, model_form, model_step};
+ghost use Rattle.blob_steps.specs.Steps.{DoesPlay, HaveBegun, IsWorld, WorldStands};
+ghost use Rattle.blob_steps.specs.Runs.{Closed, Ended, EndedBy, IsRaised, IsTooSmall, IsTurnedAway, IsUndamaged, KeepsEnds, Run as WholeRun, ShowsDamage, counts_of, layout_of};
+ghost use Rattle.blob_steps.specs.Going.{EndsPrinting, EndsReading, EndsStep, Going, IsAccepted, IsRunning, reading_ending, step_ending};
+ghost use Rattle.blob_steps.specs.Nexts.{HasSession, IsLine, IsNext, IsUnbuilt, TellsLine, next_line};
 
-use crate::fault::StepFault;
-use crate::form::Form;
+use blob_store::StoreFault;
 use crate::line::{Found, LineFault, LineReader};
-use crate::script::Step;
-use crate::status::Status;
-use crate::world::World;
+use crate::world::{Played, World};
 use blob_base::{Bytes, IoFault, OutOfMemory, StoreRefusal, Word};
+use blob_script::{Form, Status, Step, StepFault};
 use disk_model::{Disk, Layout};
 use io_ends::{Sink, Source, put_all};
 use std::alloc::Global;
 
 // How many lines a script may have.
-const MAX_LINES: u64 = 16;
+const MAX_LINES: u64 = 1_000_000;
 
 // A run on the way.
 #[derive(Drop)]
@@ -41,6 +37,14 @@ struct Run {
     world: World,
     line: Bytes,
     text: Bytes,
+}
+
+// What was found at the front of what is left of a script.
+#[derive(Drop)]
+enum Next {
+    Step { step: Step },
+    Skipped,
+    End,
 }
 
 // Prints a text.
@@ -63,9 +67,9 @@ fn print<K: Sink>(sink: &mut K, text: &[u8]) -> Result<(), Status>
 impl Run {
     fn new(alloc: Global, layout: Layout) -> Result<Run, OutOfMemory>
         ensures reader { IfOk result (λ run. run.reader ≡ []) }
-        ensures sound { IfOk result (λ run. IsSound run.world.store) }
+        ensures sound { IfOk result (λ run. IsWorld run.world) }
         ensures layout { IfOk result (λ run. run.world.store.layout ≡ layout) }
-        ensures weight { IfOk result (λ run. weight run.world ≡ 0) }
+        ensures begun { IfOk result (λ run. HaveBegun 0 run.world) }
         ensures stands { IfOk result (λ run. WorldStands run.world (world_over empty_store)) }
     {
         Ok(Run {
@@ -76,81 +80,63 @@ impl Run {
         })
     }
 
-    // Reads the step of the line of this number, or none at the end of the script.
-    fn read_step<S: Source>(
+    // Takes the line of this number off the script.
+    fn next<S: Source>(
         &mut self,
         alloc: Global,
         number: u64,
         source: &mut S,
-    ) -> Result<Option<Step>, Status>
-        requires { number ≤ 16 }
-        ensures step { IfOk result (λ found. MatchOption found
-            (NoLine (prepend_known self.old.reader (S.left source.old)))
-            (λ step. IsPlayed (model_step step) × TakesStep number (prepend_known self.old.reader (S.left source.old))
-            (prepend_known self.new.reader (S.left source.new)) (model_step step))) }
+    ) -> Result<Next, Status>
+        ensures next { IfOk result (IsNext number (prepend_known self.old.reader (S.left source.old))
+            (prepend_known self.new.reader (S.left source.new))) }
+        ensures few { IfOk result (λ next. IsLine next → number ≤ MAX_LINES) }
         ensures ends { IfErr result (λ status. EndsReading status number (prepend_known self.old.reader (S.left source.old))
             (S.faults source.old) (S.faults source.new)) }
         ensures world { self.new.world ≡ self.old.world }
         ensures keeps { KeepsEnd S.faults S.frugal source.old source.new }
     {
         match self.reader.next_line(alloc, source, &mut self.line) {
-            Ok(Found::Line) => match Step::read(alloc, self.line.as_slice()) {
-                Ok(Some(step)) => Ok(Some(step)),
-                Ok(None) => Err(Status::NotBuilt { line: number }),
-                Err(_) => Err(Status::OutOfMemory),
-            },
-            Ok(Found::LongLine) => Err(Status::NotBuilt { line: number }),
-            Ok(Found::End) => Ok(None),
+            Ok(Found::Line) => read_line(alloc, number, self.line.as_slice()),
+            Ok(Found::LongLine) => Err(Status::Malformed { line: number }),
+            Ok(Found::End) => Ok(Next::End),
             Err(fault) => Err(reading_status(fault)),
         }
     }
 
-    // Whether no line is left.
-    fn is_at_end<S: Source>(&mut self, alloc: Global, source: &mut S) -> Result<bool, Status>
-        ensures end { result ≡ Ok true → NoLine (prepend_known self.old.reader (S.left source.old)) }
-        ensures more { result ≡ Ok false → SomeLine (prepend_known self.old.reader (S.left source.old)) }
-        ensures ends { IfErr result (λ status. EndsReading status 17 (prepend_known self.old.reader (S.left source.old))
-            (S.faults source.old) (S.faults source.new)) }
-        ensures world { self.new.world ≡ self.old.world }
-        ensures keeps { KeepsEnd S.faults S.frugal source.old source.new }
-    {
-        match self.reader.next_line(alloc, source, &mut self.line) {
-            Ok(Found::Line) => Ok(false),
-            Ok(Found::LongLine) => Ok(false),
-            Ok(Found::End) => Ok(true),
-            Err(fault) => Err(reading_status(fault)),
-        }
-    }
-
-    // Does a step, and makes its answer the text.
-    fn do_step<D: Disk>(&mut self, alloc: Global, disk: &mut D, step: Step) -> Result<(), Status>
-        requires sound { IsSound self.old.world.store }
-        requires played { IsPlayed (model_step step) }
-        requires weight { weight self.old.world < 1024 }
+    // Does the step that the line of this number asks for, and makes its answer the text.
+    fn do_step<D: Disk>(
+        &mut self,
+        alloc: Global,
+        disk: &mut D,
+        number: u64,
+        step: Step,
+    ) -> Result<(), Status>
+        requires sound { IsWorld self.old.world }
+        requires begun { HaveBegun (2 ^ 61) self.old.world }
+        requires session { IsSession step }
         requires disk { total_pages self.old.world.store.layout ≤ D.size disk.old }
         ensures step { (world : ModelWorld) → WorldStands self.old.world world
-            → OnOk result (CameTo D.Disk world (step_play self.new.world.store.layout world (model_step step))
-            self.new.text self.new.world disk.old disk.new) }
+            → OnOk result (DoesPlay D.Disk world (model_step step) self.new.text self.old.world self.new.world disk.old disk.new
+            Played.Answered) }
+        ensures unbuilt { (world : ModelWorld) → WorldStands self.old.world world
+            → IfErr result (IsUnbuilt self.old.world.store.layout world (model_step step) number disk.old disk.new) }
         ensures damage { (world : ModelWorld) → WorldStands self.old.world world
             → IfErr result (λ status. ShowsDamage status world.store.objects) }
         ensures whole { IsTrue D.tells → (world : ModelWorld) → WorldStands self.old.world world
             → AllStand (D.story disk.old).reads self.old.world.store.layout world.store.objects
             → IfErr result IsUndamaged }
-        ensures sound { OnOk result (IsSound self.new.world.store) }
-        ensures weight { OnOk result (weight self.new.world ≤ weight self.old.world + 1) }
+        ensures sound { OnOk result (IsWorld self.new.world) }
+        ensures begun { (n : ℕ) → HaveBegun n self.old.world → OnOk result (HaveBegun (n + 1) self.new.world) }
         ensures reader { self.new.reader ≡ self.old.reader }
         ensures layout { self.new.world.store.layout ≡ self.old.world.store.layout }
         ensures keeps { Keeps D.Disk disk.old disk.new }
         ensures ends { IfErr result (λ status. EndsStep status (D.faults disk.old) (D.faults disk.new)) }
     {
-        let answer = match self.world.step(alloc, disk, step) {
-            Ok(answer) => answer,
-            Err(fault) => return Err(step_status(fault)),
-        };
         self.text.clear();
-        match answer.print(alloc, &mut self.text) {
-            Ok(()) => Ok(()),
-            Err(_) => Err(Status::OutOfMemory),
+        match self.world.step(alloc, disk, step, &mut self.text) {
+            Ok(Played::Answered) => Ok(()),
+            Ok(Played::NotBuilt) => Err(Status::NotBuilt { line: number }),
+            Err(fault) => Err(step_status(fault)),
         }
     }
 
@@ -163,9 +149,8 @@ impl Run {
         sink: &mut K,
         disk: &mut D,
     ) -> Result<bool, Status>
-        requires sound { IsSound self.old.world.store }
-        requires number { number ≤ 16 }
-        requires weight { weight self.old.world < 1024 }
+        requires sound { IsWorld self.old.world }
+        requires begun { HaveBegun (2 ^ 61) self.old.world }
         requires disk { total_pages self.old.world.store.layout ≤ D.size disk.old }
         ensures going { (start : ModelStore) (first old : Option (List ℕ)) (was : _)
             → Going D.Disk start self.old.world number first (prepend_known self.old.reader (S.left source.old)) old
@@ -176,8 +161,9 @@ impl Run {
             (K.taken sink.new) was disk.new)
             (Ended D.Disk self.old.world.store.layout start (K.frugal sink.old) first old (K.taken sink.new) was disk.new Status.Done))
             (λ status. Ended D.Disk self.old.world.store.layout start (K.frugal sink.old) first old (K.taken sink.new) was disk.new status) }
-        ensures sound { OnOk result (IsSound self.new.world.store) }
-        ensures weight { OnOk result (weight self.new.world ≤ weight self.old.world + 1) }
+        ensures few { result ≡ Ok true → number ≤ MAX_LINES }
+        ensures sound { OnOk result (IsWorld self.new.world) }
+        ensures begun { (n : ℕ) → HaveBegun n self.old.world → OnOk result (HaveBegun (n + 1) self.new.world) }
         ensures layout { self.new.world.store.layout ≡ self.old.world.store.layout }
         ensures own { IfErr result IsRunning }
         ensures raised { IfErr result (λ status. IsRaised status
@@ -185,14 +171,34 @@ impl Run {
             (counts_of S.Source K.Sink D.Disk source.new sink.new disk.new)) }
         ensures keeps { KeepsEnds S.Source K.Sink D.Disk source.old sink.old disk.old source.new sink.new disk.new }
     {
-        match self.read_step(alloc, number, source)? {
-            Some(step) => {
-                self.do_step(alloc, disk, step)?;
+        match self.next(alloc, number, source)? {
+            Next::Step { step } => {
+                self.do_step(alloc, disk, number, step)?;
                 print(sink, self.text.as_slice())?;
                 Ok(true)
             }
-            None => Ok(false),
+            Next::Skipped => Ok(true),
+            Next::End => Ok(false),
         }
+    }
+}
+
+// What the line of this number is.
+fn read_line(alloc: Global, number: u64, line: &[u8]) -> Result<Next, Status>
+    ensures line { IfOk result (λ next. line_at number line.now ≡ next_line next) }
+    ensures some { IfOk result IsLine }
+    ensures session { IfOk result HasSession }
+    ensures few { OnOk result (number ≤ MAX_LINES) }
+    ensures ends { IfErr result (TellsLine number (line_at number line.now)) }
+{
+    if number > MAX_LINES {
+        return Err(Status::Malformed { line: number });
+    }
+    match Step::read(alloc, line) {
+        Ok(Some(step)) => Ok(Next::Step { step }),
+        Ok(None) => Ok(Next::Skipped),
+        Err(StepFault::Malformed) => Err(Status::Malformed { line: number }),
+        Err(StepFault::OutOfMemory) => Err(Status::OutOfMemory),
     }
 }
 
@@ -212,13 +218,13 @@ fn reading_status(fault: LineFault) -> Status
 }
 
 // The status of a step that has no answer.
-fn step_status(fault: StepFault) -> Status
+fn step_status(fault: StoreFault) -> Status
     ensures { result ≡ step_ending fault }
 {
     match fault {
-        StepFault::Failed => Status::DiskFault,
-        StepFault::OutOfMemory => Status::OutOfMemory,
-        StepFault::Damaged {
+        StoreFault::Failed => Status::DiskFault,
+        StoreFault::OutOfMemory => Status::OutOfMemory,
+        StoreFault::Damaged {
             key,
             link,
             want,
@@ -253,18 +259,13 @@ fn run_script<S: Source, K: Sink, D: Disk>(
     let Ok(mut run) = Run::new(alloc, layout) else {
         return Err(Status::OutOfMemory);
     };
-    for number in 1..MAX_LINES + 1 {
+    for number in 1..MAX_LINES + 2 {
         if !run.answer_line(alloc, number, source, sink, disk)? {
             return Ok(());
         }
     }
-    if run.is_at_end(alloc, source)? {
-        Ok(())
-    } else {
-        Err(Status::NotBuilt {
-            line: MAX_LINES + 1,
-        })
-    }
+    // The line behind the last that a script may have is malformed.
+    unreachable!()
 }
 
 // Runs a script over an empty store of this layout, where the disk is large enough.
@@ -303,6 +304,16 @@ fn fresh<S: Source, K: Sink, D: Disk>(
     }
 }
 
+/// The layout that a form of a command line asks for.
+pub fn layout_of(form: Form) -> Layout
+    requires { (words : List (List ℕ)) × IsForm words (model_form form) }
+    ensures { result ≡ layout_of (model_form form) }
+{
+    match form {
+        Form::Fresh { units, room } => Layout { units, room },
+    }
+}
+
 // Runs what the words ask for, up to the closing line.
 fn run_words<S: Source, K: Sink, D: Disk>(
     alloc: Global,
@@ -322,7 +333,7 @@ fn run_words<S: Source, K: Sink, D: Disk>(
     ensures keeps { KeepsEnds S.Source K.Sink D.Disk source.old sink.old disk.old source.new sink.new disk.new }
 {
     match Form::read(words) {
-        Some(form) => fresh(alloc, form.layout(), source, sink, disk),
+        Some(form) => fresh(alloc, layout_of(form), source, sink, disk),
         None => Status::Usage,
     }
 }

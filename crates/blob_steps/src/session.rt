@@ -1,376 +1,249 @@
-// Sessions and their transactions.
+// Sessions.
 
-ghost use Rattle.std.specs.Prelude.{◌≡◌, ℕ, ◌<◌, ◌≤◌, ◌%◌, ◌==◌, not, length, Bool, Some, option_map, IfOk, IfErr, OnErr, IsTrue};
-ghost use Rattle.store_model.specs.Disk.{page_bytes};
-ghost use Rattle.store_model.specs.Shape.{greatest_size};
-ghost use Rattle.std.specs.FinMap as map;
-ghost use Rattle.store_model.specs.Store.{Store, number_at};
-ghost use Rattle.store_model.specs.OneSession.Transaction.{new_transaction, is_touched, touched_count, content_of};
-ghost use Rattle.store_model.specs.OneSession.Turn.{is_one_too_many, look_turn, put_turn, turn};
-ghost use Rattle.store_model.specs.OneSession.Turn as model;
+ghost use Rattle.std.specs.Prelude.{◌≡◌, ◌<◌, ◌≤◌, ◌+◌, ◌^◌, ℕ, Some, None, option_map, IfOk, OnErr, MatchResult};
+ghost use Rattle.blob_script.specs.Answers.{model_line};
 ghost use Rattle.blob_script.specs.Contents.{content_bytes};
+ghost use Rattle.store_model.specs.Store.{Store, content_at, number_at};
+ghost use Rattle.std.specs.FinMap as map;
+ghost use Rattle.store_model.specs.Turn as turn;
+ghost use Rattle.store_model.specs.Turn.{put_turn};
+ghost use Rattle.store_model.specs.Transaction.{Transaction};
+ghost use Rattle.txn.specs.Txns.{own_bytes, print_by, transaction_by};
+ghost use Rattle.txn.specs.declared.refusal.TxnRefusal.TheVariants as refusal;
+ghost use Rattle.store_model.specs.Turn.{Session as ModelSession};
+ghost use Rattle.blob_store.specs.declared.look.Look.{Look};
+ghost use Rattle.blob_steps.specs.Sessions.{Asks, IsNotOpen, LooksTo, SessionStands, TurnsTo, refused_line};
 
-use crate::answer::AnswerLine;
-use crate::key_map::KeyMap;
-use crate::write::Placement;
-use blob_base::{Bytes, Key, OutOfMemory, PAGE_BYTES};
-use blob_script::Content;
-use blob_state::{BlobState, Draft};
+use blob_base::{Key, OutOfMemory};
+use blob_script::{AnswerLine, Content};
+use blob_state::{BlobState, Print};
 use std::alloc::Global;
-use std::marker::Model;
 use std::mem;
-use tier_table::{MAX_EXTENTS, MAX_SIZE};
+use tier_table::MAX_SIZE;
+use txn::{Read, Request, Txn, TxnRefusal};
 
-// How many keys a transaction may touch.
-const MAX_KEYS: usize = 16;
-
-/// A change of a key: its new content, and the draft of its state.
+/// What a session has under way: no transaction, an open one, or one whose request is queued.
 #[derive(Drop)]
-pub(crate) struct Change {
-    pub(crate) content: Bytes,
-    pub(crate) draft: Box<Draft>,
+pub(crate) enum Stage {
+    Free,
+    Open { txn: Txn },
+    Waiting,
 }
 
-impl Model for Change {
-    ghost use Rattle.store_model.specs.OneSession.Transaction as tr;
-    ghost use Rattle.blob_steps.specs.Coding.{IsDraftFor};
-
-    ghost Value = { tr.Change };
-
-    ghost view = { λ change. tr.Put change.content };
-
-    ghost invariant = { λ change. IsDraftFor change.content change.draft.value };
-}
-
-impl Change {
-    ghost use Rattle.store_model.specs.Holds.{place_of};
-    ghost use Rattle.store_model.specs.Places.{extent_count};
-    ghost use Rattle.store_model.specs.State.{IsNumber, IsState, Tells};
-    ghost use Rattle.store_model.specs.OneSession.Transaction as tr;
-    ghost use Rattle.store_model.specs.OneSession.Transaction.{content_of};
-    ghost use Rattle.blob_steps.specs.Answers.{model_line};
-    ghost use Rattle.blob_steps.specs.Fitting.{Fits};
-    ghost use Rattle.blob_steps.specs.Sessions.{show_of};
-
-    // The change that puts a content.
-    fn put(alloc: Global, content: Bytes) -> Result<Change, OutOfMemory>
-        requires { length content ≤ greatest_size }
-        ensures { IfOk result (λ change. change ≡ tr.Put content) }
-    {
-        let Ok(draft) = Draft::put(content.as_slice()) else {
-            unreachable!()
-        };
-        let Ok(draft) = Box::new(alloc, draft) else {
-            return Err(OutOfMemory);
-        };
-        Ok(Change { content, draft })
-    }
-
-    /// How many extents its content has.
-    pub(crate) fn extents(&self) -> u32
-        ensures count { result ≡ extent_count (length (content_of self.now)) }
-        ensures most { result ≤ MAX_EXTENTS }
-    {
-        self.draft.rules();
-        self.draft.marks().len() as u32
-    }
-
-    /// Whether its content has a tail.
-    pub(crate) fn has_tail(&self) -> bool
-        ensures { result ≡ not (length (content_of self.now) % page_bytes == 0) }
-    {
-        self.content.len() % PAGE_BYTES != 0
-    }
-
-    /// Its content.
-    pub(crate) fn content(&self) -> &[u8]
-        ensures value { result.now ≡ content_of self.now }
-        ensures most { length result.now ≤ greatest_size }
-    {
-        self.draft.rules();
-        self.content.as_slice()
-    }
-
-    /// The state of its content at this place, written by the entry of this number.
-    pub(crate) fn state_at(&self, place: &Placement, number: u64) -> BlobState
-        requires fits { Fits (length (content_of self.now)) place.now }
-        requires number { IsNumber number }
-        ensures number { result.born ≡ number }
-        ensures place { place_of result ≡ place.now }
-        ensures tells { Tells result (content_of self.now) }
-        ensures rules { IsState result }
-    {
-        self.draft.place(&place.heads, place.tail, number)
-    }
-
-    // What a look shows of its content.
-    fn show(&self, alloc: Global, look: Look) -> Result<AnswerLine, OutOfMemory>
-        ensures { IfOk result (λ line. model_line line ≡ show_of look (Some (content_of self.now))) }
-    {
-        match look {
-            Look::Get => Ok(AnswerLine::Value {
-                content: Bytes::of(alloc, self.content.as_slice())?,
-            }),
-            Look::Stat => Ok(AnswerLine::Stat {
-                size: self.draft.size(),
-                digest: *self.draft.digest(),
-            }),
-        }
-    }
-}
-
-/// What a transaction has read and changed.
+/// A session: how many transactions it has begun, and what it has under way.
 #[derive(Drop)]
-pub(crate) struct Transaction {
-    reads: KeyMap<Option<u64>>,
-    changes: KeyMap<Change>,
-}
-
-impl Model for Transaction {
-    ghost use Rattle.store_model.specs.OneSession.Transaction as tr;
-    ghost use Rattle.blob_steps.specs.Coding.{transaction_code};
-
-    ghost Value = { tr.Transaction };
-
-    ghost coded = { transaction_code };
-
-    ghost view = { λ t. record { reads = t.reads; changes = t.changes } };
-}
-
-/// How a read of a key went.
-#[derive(Clone, Copy, Debug, PartialEq, Eq)]
-pub(crate) enum Reading {
-    /// The key is untouched, and would be one too many.
-    TooMany,
-    /// The key was read before with another number.
-    Stale,
-    /// The transaction has put the key.
-    Own,
-    /// What the store has is shown, and its number is recorded.
-    Stored,
-}
-
-/// What a look at a key shows of its content.
-#[derive(Clone, Copy, Debug, PartialEq, Eq)]
-pub(crate) enum Look {
-    /// Its bytes.
-    Get,
-    /// Its size and its digest.
-    Stat,
+pub(crate) struct Session {
+    pub(crate) begun: u64,
+    pub(crate) stage: Stage,
 }
 
 /// What a look is answered.
 #[derive(Drop)]
-pub(crate) enum Got {
+pub(crate) enum Looked {
     /// This line.
     Line { line: AnswerLine },
+    /// What the transaction itself puts under the key.
+    Own,
     /// What the store has under the key.
     Stored,
 }
 
-impl Transaction {
-    ghost use Rattle.blob_steps.specs.Sessions.{ReadGives, got_line, show_of};
-    ghost use Rattle.blob_steps.specs.Answers.{model_line};
+// What a refusal is answered, but for want of memory.
+fn refusal_line(refusal: TxnRefusal) -> Result<AnswerLine, OutOfMemory>
+    ensures { MatchResult result (λ line. refused_line refusal ≡ Some (model_line line)) (λ _. refused_line refusal ≡ None) }
+{
+    match refusal {
+        TxnRefusal::TooMany { keys } => Ok(AnswerLine::TooMany { keys }),
+        TxnRefusal::Stale { now } => Ok(AnswerLine::Stale { now }),
+        TxnRefusal::Absent => Ok(AnswerLine::Absent),
+        TxnRefusal::TooLong { size } => Ok(AnswerLine::TooLong { size }),
+        TxnRefusal::OutOfMemory => Err(OutOfMemory),
+    }
+}
 
-    /// A transaction that has read and changed nothing.
-    pub(crate) fn new(alloc: Global) -> Transaction
-        ensures { result ≡ new_transaction }
+impl Session {
+    /// A session that has begun nothing.
+    pub(crate) fn new() -> Session
+        ensures begun { result.begun ≡ 0 }
+        ensures stands { (number : ℕ) → SessionStands result number turn.new_session }
     {
-        Transaction {
-            reads: KeyMap::new(alloc),
-            changes: KeyMap::new(alloc),
+        Session {
+            begun: 0,
+            stage: Stage::Free,
         }
     }
 
-    fn is_touched(&self, key: &Key) -> bool
-        ensures { result ≡ is_touched self.now key.now }
+    /// Begins a transaction of the session of this number; `front` is the number of the store's last entry.
+    pub(crate) fn begin(&mut self, alloc: Global, number: u8, front: u64) -> AnswerLine
+        requires number { number < 16 }
+        requires begun { self.old.begun < 2 ^ 62 }
+        ensures turn { (store : Store) (theirs : ModelSession) → store.last ≡ front → SessionStands self.old number theirs
+            → TurnsTo store theirs turn.Begin number self.new (model_line result) }
+        ensures begun { self.new.begun ≤ self.old.begun + 1 }
+        ensures waits { self.old.stage ≡ Stage.Waiting → self.new.stage ≡ Stage.Waiting }
     {
-        self.reads.contains_key(key) || self.changes.contains_key(key)
-    }
-
-    fn is_one_too_many(&self, key: &Key) -> bool
-        ensures { result ≡ is_one_too_many self.now key.now }
-    {
-        !self.is_touched(key)
-            && self.reads.len() + self.changes.count_unread(&self.reads) >= MAX_KEYS
-    }
-
-    /// Records the read of a key whose number now is this one.
-    fn read(&mut self, key: &Key, now: Option<u64>) -> Result<Reading, OutOfMemory>
-        ensures reading { IfOk result (λ reading. ReadGives self.old key.now now reading self.new) }
-        ensures changes { self.new.changes ≡ self.old.changes }
-        ensures err { OnErr result (self.new ≡ self.old) }
-    {
-        if self.is_one_too_many(key) {
-            return Ok(Reading::TooMany);
-        }
-        if self.changes.contains_key(key) {
-            return Ok(Reading::Own);
-        }
-        match self.reads.get(key) {
-            Some(seen) => Ok(if *seen == now {
-                Reading::Stored
-            } else {
-                Reading::Stale
-            }),
-            None => {
-                self.reads.insert(key.copy(), now)?;
-                Ok(Reading::Stored)
+        match self.stage {
+            Stage::Free => {
+                self.begun += 1;
+                self.stage = Stage::Open {
+                    txn: Txn::begin(alloc, number, self.begun, front),
+                };
+                AnswerLine::Begun
             }
+            Stage::Open { .. } => AnswerLine::Already,
+            Stage::Waiting => AnswerLine::Busy,
         }
     }
 
-    // A look at a key whose number now is this one.
-    fn look(
-        &mut self,
-        alloc: Global,
-        look: Look,
-        key: &Key,
-        now: Option<u64>,
-    ) -> Result<Got, OutOfMemory>
-        ensures turn { IfOk result (λ got. (store : Store) → number_at store key.now ≡ now
-            → look_turn (show_of look) store self.old key.now
-            ≡ record { line = got_line look store key.now got; session = model.Open self.new }) }
-        ensures changes { self.new.changes ≡ self.old.changes }
+    /// Gives its transaction up.
+    pub(crate) fn abort(&mut self) -> AnswerLine
+        ensures turn { (store : Store) (theirs : ModelSession) (number : ℕ) → SessionStands self.old number theirs
+            → TurnsTo store theirs turn.Abort number self.new (model_line result) }
+        ensures begun { self.new.begun ≡ self.old.begun }
+        ensures waits { self.old.stage ≡ Stage.Waiting → self.new.stage ≡ Stage.Waiting }
     {
-        match self.read(key, now)? {
-            Reading::TooMany => Ok(Got::Line {
-                line: AnswerLine::TooMany {
-                    keys: MAX_KEYS as u32 + 1,
-                },
-            }),
-            Reading::Stale => Ok(Got::Line {
-                line: AnswerLine::Stale { now },
-            }),
-            Reading::Own => match self.own(alloc, look, key)? {
-                Some(line) => Ok(Got::Line { line }),
-                None => Ok(Got::Stored),
-            },
-            Reading::Stored => Ok(Got::Stored),
+        match self.stage {
+            Stage::Free => AnswerLine::NoTransaction,
+            Stage::Open { .. } => {
+                self.stage = Stage::Free;
+                AnswerLine::Aborted
+            }
+            Stage::Waiting => AnswerLine::Busy,
         }
     }
 
-    // What a look shows of the content that it puts under a key.
-    fn own(&self, alloc: Global, look: Look, key: &Key) -> Result<Option<AnswerLine>, OutOfMemory>
-        ensures { IfOk result (λ line. option_map model_line line
-            ≡ option_map (λ change. show_of look (Some (content_of change))) (map.get self.now.changes key.now)) }
+    /// The request of its open transaction, which it then waits for; or the line that it is answered.
+    pub(crate) fn commit(&mut self) -> Result<Request, AnswerLine>
+        ensures turn { (store : Store) (theirs : ModelSession) (number : ℕ) → SessionStands self.old number theirs
+            → MatchResult result (λ request. Asks theirs number request self.new)
+            (λ line. TurnsTo store theirs turn.Commit number self.new (model_line line)) }
+        ensures begun { self.new.begun ≡ self.old.begun }
+        ensures same { OnErr result (self.new ≡ self.old) }
+        ensures not_open { OnErr result (IsNotOpen self.old.stage) }
     {
-        match self.changes.get(key) {
-            Some(change) => Ok(Some(change.show(alloc, look)?)),
-            None => Ok(None),
+        match mem::replace(&mut self.stage, Stage::Waiting) {
+            Stage::Free => {
+                self.stage = Stage::Free;
+                Err(AnswerLine::NoTransaction)
+            }
+            Stage::Open { txn } => Ok(txn.seal()),
+            Stage::Waiting => Err(AnswerLine::Busy),
         }
     }
 
     /// Puts a content under a key.
-    fn put(&mut self, alloc: Global, key: Key, content: &Content) -> Result<AnswerLine, OutOfMemory>
-        ensures turn { IfOk result (λ line. put_turn self.old key (content_bytes content.now)
-            ≡ record { line = model_line line; session = model.Open self.new }) }
-        ensures err { OnErr result (self.new ≡ self.old) }
+    pub(crate) fn put(&mut self, alloc: Global, key: &Key, content: &Content) -> Result<AnswerLine, OutOfMemory>
+        ensures turn { IfOk result (λ line. (store : Store) (theirs : ModelSession) (number : ℕ) → SessionStands self.old number theirs
+            → TurnsTo store theirs (turn.Put key.now (content_bytes content.now)) number self.new (model_line line)) }
+        ensures begun { self.new.begun ≡ self.old.begun }
+        ensures waits { self.old.stage ≡ Stage.Waiting → self.new.stage ≡ Stage.Waiting }
     {
-        if self.is_one_too_many(&key) {
-            return Ok(AnswerLine::TooMany {
-                keys: MAX_KEYS as u32 + 1,
-            });
+        match &mut self.stage {
+            Stage::Free => Ok(AnswerLine::NoTransaction),
+            Stage::Open { txn } => put(alloc, txn, key, content),
+            Stage::Waiting => Ok(AnswerLine::Busy),
         }
-        let size = content.size();
-        if size > MAX_SIZE {
-            return Ok(AnswerLine::TooLong { size });
-        }
-        let content = content.bytes(alloc)?;
-        self.changes.insert(key, Change::put(alloc, content)?)?;
-        Ok(AnswerLine::Put)
     }
 
-    /// Its changes.
-    pub(crate) fn into_changes(self) -> KeyMap<Change>
-        ensures { result ≡ self.changes }
+    /// Deletes a key, which has this state in the store; `front` is the number of the store's last entry.
+    pub(crate) fn del(&mut self, key: &Key, now: Option<&BlobState>, front: u64) -> Result<AnswerLine, OutOfMemory>
+        ensures turn { IfOk result (λ line. (store : Store) (theirs : ModelSession) (number : ℕ) → store.last ≡ front
+            → number_at store key.now ≡ option_map (λ state. state.now.born) now.entry → SessionStands self.old number theirs
+            → TurnsTo store theirs (turn.Delete key.now) number self.new (model_line line)) }
+        ensures begun { self.new.begun ≡ self.old.begun }
+        ensures waits { self.old.stage ≡ Stage.Waiting → self.new.stage ≡ Stage.Waiting }
     {
-        self.changes
-    }
-}
-
-/// A session: it has no transaction, an open one, or one whose request is queued.
-#[derive(Drop)]
-pub(crate) enum Session {
-    Free,
-    Open { transaction: Transaction },
-    Waiting { transaction: Transaction },
-}
-
-impl Session {
-    ghost use Rattle.blob_steps.specs.Sessions.{model_session, got_line, change_count, look_action};
-    ghost use Rattle.blob_steps.specs.Answers.{model_line};
-
-    pub(crate) fn begin(&mut self, alloc: Global) -> AnswerLine
-        ensures { (store : Store) → turn store (model_session self.old) model.Begin
-            ≡ record { line = model_line result; session = model_session self.new } }
-    {
-        match self {
-            Session::Free => {
-                *self = Session::Open {
-                    transaction: Transaction::new(alloc),
-                };
-                AnswerLine::Begun
+        match &mut self.stage {
+            Stage::Free => Ok(AnswerLine::NoTransaction),
+            Stage::Open { txn } => {
+                txn.rules();
+                match txn.del(key, now, front) {
+                    Ok(()) => Ok(AnswerLine::Deleted),
+                    Err(refusal) => refusal_line(refusal),
+                }
             }
-            Session::Open { .. } => AnswerLine::Already,
-            Session::Waiting { .. } => AnswerLine::Busy,
+            Stage::Waiting => Ok(AnswerLine::Busy),
         }
     }
 
-    pub(crate) fn commit(&mut self) -> AnswerLine
-        ensures { (store : Store) → turn store (model_session self.old) model.Commit
-            ≡ record { line = model_line result; session = model_session self.new } }
-    {
-        match mem::replace(self, Session::Free) {
-            Session::Free => AnswerLine::NoTransaction,
-            Session::Open { transaction } => {
-                *self = Session::Waiting { transaction };
-                AnswerLine::Queued
-            }
-            Session::Waiting { transaction } => {
-                *self = Session::Waiting { transaction };
-                AnswerLine::Busy
-            }
-        }
-    }
-
-    pub(crate) fn put(
-        &mut self,
-        alloc: Global,
-        key: Key,
-        content: &Content,
-    ) -> Result<AnswerLine, OutOfMemory>
-        ensures { IfOk result (λ line. (store : Store) → turn store (model_session self.old) (model.Put key (content_bytes content.now))
-            ≡ record { line = model_line line; session = model_session self.new }) }
-    {
-        match self {
-            Session::Free => Ok(AnswerLine::NoTransaction),
-            Session::Open { transaction } => transaction.put(alloc, key, content),
-            Session::Waiting { .. } => Ok(AnswerLine::Busy),
-        }
-    }
-
-    /// A look at a key whose number in the store is this one.
+    /// Looks at a key, which has this state in the store; `front` is the number of the store's last entry.
     pub(crate) fn look(
         &mut self,
-        alloc: Global,
-        look: Look,
         key: &Key,
-        now: Option<u64>,
-    ) -> Result<Got, OutOfMemory>
-        ensures turn { IfOk result (λ got. (store : Store) → number_at store key.now ≡ now
-            → turn store (model_session self.old) (look_action look key.now)
-            ≡ record { line = got_line look store key.now got; session = model_session self.new }) }
-        ensures changes { change_count (model_session self.new) ≡ change_count (model_session self.old) }
+        now: Option<&BlobState>,
+        front: u64,
+    ) -> Result<Looked, OutOfMemory>
+        ensures turn { IfOk result (λ looked. (look : Look) (store : Store) (theirs : ModelSession) (number : ℕ) → store.last ≡ front
+            → number_at store key.now ≡ option_map (λ state. state.now.born) now.entry → SessionStands self.old number theirs
+            → LooksTo look store theirs key.now number self.new looked) }
+        ensures begun { self.new.begun ≡ self.old.begun }
+        ensures waits { self.old.stage ≡ Stage.Waiting → self.new.stage ≡ Stage.Waiting }
     {
-        match self {
-            Session::Free => Ok(Got::Line {
+        match &mut self.stage {
+            Stage::Free => Ok(Looked::Line {
                 line: AnswerLine::NoTransaction,
             }),
-            Session::Open { transaction } => transaction.look(alloc, look, key, now),
-            Session::Waiting { .. } => Ok(Got::Line {
+            Stage::Open { txn } => {
+                txn.rules();
+                match txn.read(key, now, front) {
+                    Ok(Read::Absent) => Ok(Looked::Line {
+                        line: AnswerLine::Absent,
+                    }),
+                    Ok(Read::Own) => Ok(Looked::Own),
+                    Ok(Read::Store) => Ok(Looked::Stored),
+                    Ok(Read::Extended) => unreachable!(),
+                    Err(refusal) => Ok(Looked::Line {
+                        line: refusal_line(refusal)?,
+                    }),
+                }
+            }
+            Stage::Waiting => Ok(Looked::Line {
                 line: AnswerLine::Busy,
             }),
         }
+    }
+
+    /// The content that its open transaction puts under a key; no bytes where it puts none.
+    pub(crate) fn own(&self, key: &Key) -> &[u8]
+        ensures { (theirs : ModelSession) (number : ℕ) (transaction : Transaction) → SessionStands self.now number theirs
+            → theirs.stage ≡ turn.Open transaction → result.now ≡ own_bytes (map.get transaction.changes key.now) }
+    {
+        match &self.stage {
+            Stage::Free => &[],
+            Stage::Open { txn } => txn.own(key),
+            Stage::Waiting => &[],
+        }
+    }
+
+    /// The size and the digest of that content, where it puts one.
+    pub(crate) fn print(&self, key: &Key) -> Option<Print>
+        ensures { (theirs : ModelSession) (number : ℕ) (transaction : Transaction) → SessionStands self.now number theirs
+            → theirs.stage ≡ turn.Open transaction
+            → option_map (λ print. (print.size, print.digest.bytes)) result ≡ print_by (map.get transaction.changes key.now) }
+    {
+        match &self.stage {
+            Stage::Free => None,
+            Stage::Open { txn } => txn.print(key),
+            Stage::Waiting => None,
+        }
+    }
+}
+
+// Puts a content under a key in an open transaction.
+fn put(alloc: Global, txn: &mut Txn, key: &Key, content: &Content) -> Result<AnswerLine, OutOfMemory>
+    ensures turn { IfOk result (λ line. put_turn (transaction_by txn.old) key.now (content_bytes content.now)
+        ≡ record { line = model_line line; stage = turn.Open (transaction_by txn.new) }) }
+    ensures session { txn.new.session ≡ txn.old.session }
+    ensures nth { txn.new.nth ≡ txn.old.nth }
+{
+    let size = content.size();
+    let done = if size > MAX_SIZE {
+        Err(txn.refuse_put(key, size))
+    } else {
+        txn.put(alloc, key, content.bytes(alloc)?)
+    };
+    match done {
+        Ok(()) => Ok(AnswerLine::Put),
+        Err(refusal) => refusal_line(refusal),
     }
 }

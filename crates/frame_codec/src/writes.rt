@@ -39,6 +39,14 @@ impl Writes {
         }
     }
 
+    /// The writes, in the order of their keys; it takes no memory.
+    pub fn into_vec(self) -> Vec<Write>
+        ensures items { result.items ≡ self }
+        ensures most { length self ≤ MAX_WRITES }
+    {
+        self.items
+    }
+
     /// How many there are.
     pub fn len(&self) -> usize
         ensures len { result ≡ length self.now }

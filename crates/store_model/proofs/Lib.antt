@@ -18,4 +18,4 @@ pub mod SortedLaws
 pub mod EntryLaws
 pub mod BlockLaws
 pub mod MapLaws
-pub mod OneSessionLaws
+pub mod RemovalLaws

@@ -28,4 +28,3 @@ pub mod Judgement
 pub mod World
 pub mod Field
 pub mod TupleFields
-pub mod OneSession

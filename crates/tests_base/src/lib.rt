@@ -2,6 +2,10 @@
 #![tactic(auto)]
 
 #[cfg(test)]
+mod answer_lines;
+#[cfg(test)]
+mod command_lines;
+#[cfg(test)]
 mod contents;
 #[cfg(test)]
 mod crashes;
@@ -14,7 +18,11 @@ mod extents;
 #[cfg(test)]
 mod file;
 #[cfg(test)]
+mod groups;
+#[cfg(test)]
 mod hash;
+#[cfg(test)]
+mod key_lists;
 #[cfg(test)]
 mod keys;
 #[cfg(test)]
@@ -22,12 +30,20 @@ mod lists;
 #[cfg(test)]
 mod relations;
 #[cfg(test)]
+mod script_lines;
+#[cfg(test)]
 mod shape;
 #[cfg(test)]
 mod space;
 #[cfg(test)]
 mod states;
 #[cfg(test)]
+mod statuses;
+#[cfg(test)]
 mod syncs;
 #[cfg(test)]
+mod transactions;
+#[cfg(test)]
 mod tuples;
+#[cfg(test)]
+mod writes;

@@ -18,8 +18,8 @@ fn state_of<R: Abort>(rt: &R, content: &[u8], page: u32) -> BlobState {
     draft.place(&ArrayVec::new(), Some(page), 1)
 }
 
-// Sets a key to the state of a content. Its relation takes few bytes.
-fn set<R: Abort>(rt: &R, relation: &mut Relation, key: &str, content: &[u8], page: u32)
+/// Sets a key to the state of a content, whose number is 1. Its relation takes few bytes.
+pub(crate) fn set<R: Abort>(rt: &R, relation: &mut Relation, key: &str, content: &[u8], page: u32)
     requires { 1 ≤ relation.old.spare }
     ensures { relation.old.spare ≤ relation.new.spare + 1 }
 {

@@ -6,7 +6,7 @@ ghost use Rattle.disk_model.specs.Disks.{untold};
 
 use crate::trial::Trial;
 use blob_base::{Bytes, Bytes64, IoFault, Key};
-use blob_steps::Status;
+use blob_script::Status;
 use disk_model::{Disk, MemDisk, Page};
 use std::process::Abort;
 use std::test::Fail;

@@ -2,7 +2,7 @@
 
 use crate::trial::{FIRST, FIRST_OUTPUT, Trial, append_made};
 use blob_base::Bytes;
-use blob_steps::Status;
+use blob_script::Status;
 use std::test::Fail;
 
 // Two puts, one of them of two extents and a tail, and a get of it. The disk takes four writes, a sync and three reads.

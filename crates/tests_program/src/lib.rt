@@ -6,9 +6,15 @@ mod damage;
 #[cfg(test)]
 mod faults;
 #[cfg(test)]
+mod groups;
+#[cfg(test)]
 mod pages;
 #[cfg(test)]
+mod refusals;
+#[cfg(test)]
 mod scripts;
+#[cfg(test)]
+mod sessions;
 #[cfg(test)]
 mod trial;
 #[cfg(test)]

@@ -3,14 +3,14 @@
 
 use crate::trial::{Ended, FIRST, Trial, append_made, made_page};
 use blob_base::{Bytes, PAGE_BYTES};
-use blob_steps::Status;
+use blob_script::Status;
 use disk_model::{Disk, MemDisk};
 use std::process::Abort;
 use std::test::Fail;
 
-// The page has these bytes at its front, and zeros behind them. In a store of one unit and one page of room page 1029 is
-// data page 0.
-fn expect_page<R: Abort>(rt: &R, ended: &mut Ended<MemDisk>, page: u32, front: &[u8]) {
+/// The page has these bytes at its front, and zeros behind them. In a store of one unit and one page of room page 1029 is
+/// data page 0.
+pub(crate) fn expect_page<R: Abort>(rt: &R, ended: &mut Ended<MemDisk>, page: u32, front: &[u8]) {
     let mut found = [1; PAGE_BYTES];
     assert!(rt; page < ended.disk.pages());
     assert!(rt; ended.disk.read(page, &mut found) == Ok(()));

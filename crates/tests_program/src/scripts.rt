@@ -1,8 +1,10 @@
 // Scripts and their answers.
 
 use crate::trial::{FIRST, FIRST_OUTPUT, Trial, expect};
-use blob_base::Bytes;
-use blob_steps::Status;
+use blob_base::{Bytes, OutOfMemory};
+use blob_script::Status;
+use std::alloc::Global;
+use std::process::Abort;
 use std::test::Fail;
 
 #[test]
@@ -71,10 +73,29 @@ fn an_empty_content(rt: HostRuntime) {
 }
 
 #[test]
-fn lines_that_are_not_built(rt: HostRuntime) {
+fn lines_that_are_skipped(rt: HostRuntime) {
+    for (script, output) in [
+        ("\n", ""),
+        ("\n\n0 begin\n", "0 begun\n"),
+        ("# note", ""),
+        ("#\n#0 begin\n# \nlead\n#", "idle\n"),
+    ] {
+        expect(&rt, script, output, &Status::Done);
+    }
+}
+
+// The script is a line, and then a lead that isn't come to.
+fn expect_last<R: Abort + AllocGlobal>(rt: &R, line: &str, closing: &[u8], status: &Status) {
+    let mut script = Bytes::of(rt.alloc(), line.as_bytes()).expect(rt, "memory");
+    script.append(rt.alloc(), b"\nlead\n").expect(rt, "memory");
+    Trial::of(script.as_slice()).expect(rt, closing, status);
+}
+
+#[test]
+fn lines_that_are_malformed(rt: HostRuntime) {
     for line in [
-        "",
-        "# note",
+        " ",
+        " # note",
         "0 jump",
         "0  begin",
         " 0 begin",
@@ -82,14 +103,15 @@ fn lines_that_are_not_built(rt: HostRuntime) {
         "0 begin\r",
         "0\tbegin",
         "0 begin now",
-        "1 begin",
+        "16 begin",
         "00 begin",
+        "-1 begin",
         "begin",
         "0",
         "0 lead",
         "lead now",
         "Lead",
-        "0 abort",
+        "0 checkpoint",
         "0 stat",
         "0 stat demo",
         "0 stat demo/a x:",
@@ -98,6 +120,8 @@ fn lines_that_are_not_built(rt: HostRuntime) {
         "0 get demo",
         "0 get Demo/a",
         "0 get demo/\u{e9}",
+        "0 del",
+        "0 del demo/",
         "0 put demo/a",
         "0 put demo/a x:616",
         "0 put demo/a x:6g",
@@ -105,46 +129,112 @@ fn lines_that_are_not_built(rt: HostRuntime) {
         "0 put demo/a 61",
         "0 put demo/a x:61 x:61",
         "0 put demo/ x:61",
+        "0 put demo/a g:4294967296:0",
+        "0 put demo/a g:1:256",
+        "0 append demo/a",
+        "0 find",
+        "0 order x:",
+        "0 order x: 65537",
+        "0 open",
+        "0 pread 256 0 1",
+        "0 pread 0 0 65537",
+        "0 close 256",
         "\u{e9}",
     ] {
-        let mut script = [0; 64];
-        let len = line.len();
-        assert!(rt; len < 32);
-        script[..len].copy_from_slice(line.as_bytes());
-        script[len] = b'\n';
-        let trial = Trial::of(&script[..len + 1]);
-        trial.expect(&rt, b"not built line 1\n", &Status::NotBuilt { line: 1 });
+        let status = Status::Malformed { line: 1 };
+        expect_last(&rt, line, b"malformed line 1\n", &status);
     }
 }
 
 #[test]
-fn a_line_that_is_not_built_ends_the_script(rt: HostRuntime) {
-    let status = Status::NotBuilt { line: 2 };
-    for (script, output) in [
-        ("0 begin\n0 jump\n0 commit\n", "0 begun\nnot built line 2\n"),
-        ("0 begin\n\n", "0 begun\nnot built line 2\n"),
-        ("0 begin\n# note", "0 begun\nnot built line 2\n"),
+fn lines_that_are_not_built(rt: HostRuntime) {
+    for line in [
+        "0 append demo/a x:61",
+        "15 find x:",
+        "0 order g:4:250 65536",
+        "0 open /demo/a",
+        "0 ls /",
+        "0 pread 255 4294967295 65536",
+        "0 close 0",
+        "checkpoint",
+    ] {
+        let status = Status::NotBuilt { line: 1 };
+        expect_last(&rt, line, b"not built line 1\n", &status);
+    }
+}
+
+// Lines that are skipped are counted, and so is a last line without its end.
+#[test]
+fn the_first_line_of_another_end_ends_the_script(rt: HostRuntime) {
+    for (script, output, status) in [
+        (
+            "0 begin\n0 abort\n0 jump",
+            "0 begun\n0 aborted\nmalformed line 3\n",
+            Status::Malformed { line: 3 },
+        ),
+        (
+            "0 begin\n0 jump\n0 append demo/a x:61\n",
+            "0 begun\nmalformed line 2\n",
+            Status::Malformed { line: 2 },
+        ),
+        (
+            "0 begin\n0 append demo/a x:61\n0 jump\n",
+            "0 begun\nnot built line 2\n",
+            Status::NotBuilt { line: 2 },
+        ),
+        (
+            "# one\n\n#lead\n15 begin\n16 begin\n",
+            "15 begun\nmalformed line 5\n",
+            Status::Malformed { line: 5 },
+        ),
+        (
+            "\n0 begin\n\ncheckpoint\n",
+            "0 begun\nnot built line 4\n",
+            Status::NotBuilt { line: 4 },
+        ),
     ] {
         expect(&rt, script, output, &status);
     }
-    Trial::of(b"lead\n\xff\n").expect(&rt, b"idle\nnot built line 2\n", &status);
+    let status = Status::Malformed { line: 2 };
+    Trial::of(b"lead\n\xff\n").expect(&rt, b"idle\nmalformed line 2\n", &status);
 }
 
-#[test]
-fn a_script_has_at_most_16_lines(rt: HostRuntime) -> Result<(), Fail> {
-    let mut script = Bytes::new(rt.alloc());
-    let mut output = Bytes::new(rt.alloc());
-    for _ in 0..16 {
-        script.append(rt.alloc(), b"lead\n")?;
-        output.append(rt.alloc(), b"idle\n")?;
+// A line that begins with these bytes, and goes on with others up to this length.
+fn long_line(alloc: Global, front: &[u8], byte: u8, len: usize) -> Result<Bytes, OutOfMemory> {
+    let mut line = Bytes::of(alloc, front)?;
+    for _ in front.len()..len {
+        line.append(alloc, &[byte])?;
     }
-    Trial::of(script.as_slice()).expect(&rt, output.as_slice(), &Status::Done);
-    output.append(rt.alloc(), b"not built line 17\n")?;
-    script.append(rt.alloc(), b"\n")?;
-    let status = Status::NotBuilt { line: 17 };
-    Trial::of(script.as_slice()).expect(&rt, output.as_slice(), &status);
-    script.append(rt.alloc(), b"lead\n")?;
-    Trial::of(script.as_slice()).expect(&rt, output.as_slice(), &status);
+    Ok(line)
+}
+
+// The longest line holds a put of 32,762 bytes.
+#[test]
+fn lines_of_65_536_bytes(rt: HostRuntime) -> Result<(), Fail> {
+    let mut script = long_line(rt.alloc(), b"#", b'#', 65_536)?;
+    script.append(rt.alloc(), b"\n0 begin\n")?;
+    let put = long_line(rt.alloc(), b"0 put a/b x:", b'a', 65_536)?;
+    script.append(rt.alloc(), put.as_slice())?;
+    script.append(rt.alloc(), b"\n0 stat a/b\n")?;
+    let output =
+        b"0 begun\n0 put\n0 stat 32762 a53516ee3db26ae60cbf48b5ae355909a8e0cd28f1b9b6546d277b2b89f0bdd8\n";
+    Trial::of(script.as_slice()).expect(&rt, output, &Status::Done);
+    Ok(())
+}
+
+// A comment and a put, both of which were well formed if they were shorter.
+#[test]
+fn lines_of_65_537_bytes(rt: HostRuntime) -> Result<(), Fail> {
+    let comment = long_line(rt.alloc(), b"#", b'#', 65_537)?;
+    let put = long_line(rt.alloc(), b"0 put a/bc x:", b'a', 65_537)?;
+    for line in [comment, put] {
+        let status = Status::Malformed { line: 2 };
+        let mut script = Bytes::of(rt.alloc(), b"0 begin\n")?;
+        script.append(rt.alloc(), line.as_slice())?;
+        Trial::of(script.as_slice()).expect(&rt, b"0 begun\nmalformed line 2\n", &status);
+        script.append(rt.alloc(), b"\nlead\n")?;
+        Trial::of(script.as_slice()).expect(&rt, b"0 begun\nmalformed line 2\n", &status);
+    }
     Ok(())
 }
 
@@ -187,17 +277,4 @@ fn no_room_for_a_fourth_state(rt: HostRuntime) {
         b"0 begun\n0 put\n0 queued\n0 committed 1\n0 begun\n0 put\n0 queued\n0 committed 2\n0 begun\n0 put\n0 queued\n0 committed 3\n0 begun\n0 put\n0 queued\n0 no-room 4940 4096\n",
         &Status::Done,
     );
-}
-
-#[test]
-fn a_line_of_70_000_bytes(rt: HostRuntime) -> Result<(), Fail> {
-    let mut script = Bytes::new(rt.alloc());
-    for _ in 0..7000 {
-        script.append(rt.alloc(), b"0123456789")?;
-    }
-    let status = Status::NotBuilt { line: 1 };
-    Trial::of(script.as_slice()).expect(&rt, b"not built line 1\n", &status);
-    script.append(rt.alloc(), b"\nlead\n")?;
-    Trial::of(script.as_slice()).expect(&rt, b"not built line 1\n", &status);
-    Ok(())
 }

@@ -3,7 +3,8 @@
 ghost use Rattle.std.specs.Prelude.{◌<◌, ◌≤◌};
 
 use blob_base::{Bytes, Bytes64, OutOfMemory, PAGE_BYTES, Word};
-use blob_steps::{Status, run_alone};
+use blob_script::Status;
+use blob_steps::run_alone;
 use disk_model::{Disk, MemDisk, Page};
 use io_ends::{MemSink, MemSource};
 use std::alloc::Global;
@@ -110,6 +111,34 @@ fn numbers(alloc: Global, calls: &[u64]) -> Result<Bytes64, OutOfMemory> {
 /// Runs a script in the smallest store, where nothing fails, and compares how it ended.
 pub(crate) fn expect<R: Abort + AllocGlobal>(rt: &R, script: &str, output: &str, status: &Status) {
     Trial::of(script.as_bytes()).expect(rt, output.as_bytes(), status);
+}
+
+// Adds lines that are parted by `;`, each with its end. No lines are the empty text.
+fn append_lines(alloc: Global, out: &mut Bytes, lines: &str) -> Result<(), OutOfMemory> {
+    if lines.is_empty() {
+        return Ok(());
+    }
+    for line in lines.split(';') {
+        out.append(alloc, line.as_bytes())?;
+        out.append(alloc, b"\n")?;
+    }
+    Ok(())
+}
+
+/// Runs a script in the smallest store, where nothing fails, to its end, and compares its answers. Each pair has lines of
+/// the script, parted by `;`, and what they are answered.
+pub(crate) fn talk<R: Abort + AllocGlobal>(rt: &R, parts: &[(&str, &str)]) -> Ended<MemDisk> {
+    let mut script = Bytes::new(rt.alloc());
+    let mut output = Bytes::new(rt.alloc());
+    for (asked, answered) in parts {
+        append_lines(rt.alloc(), &mut script, asked).expect(rt, "memory");
+        append_lines(rt.alloc(), &mut output, answered).expect(rt, "memory");
+    }
+    let ended = Trial::of(script.as_slice())
+        .run(rt.alloc())
+        .expect(rt, "memory");
+    ended.expect(rt, output.as_slice(), &Status::Done);
+    ended
 }
 
 /// The bytes from the first of the page of this number on, in the made content of a first byte.

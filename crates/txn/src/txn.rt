@@ -9,7 +9,7 @@ ghost use Rattle.store_model.specs.Turn.{has_moved, is_one_too_many, is_stale, w
 ghost use Rattle.txn.specs.Refusals.{IsCause, IsDeleteRefusal, IsPutRefusal, IsReadRefusal};
 ghost use Rattle.txn.specs.Requests.{model_change, transaction_of};
 ghost use Rattle.txn.specs.declared.refusal.TxnRefusal.TheVariants as refusal;
-ghost use Rattle.txn.specs.Txns.{Absent, MayRead, NoAppends, is_append, own_bytes, print_by, transaction_by, value_by};
+ghost use Rattle.txn.specs.Txns.{Absent, IsTxn, MayRead, NoAppends, is_append, own_bytes, print_by, transaction_by, value_by};
 ghost use Rattle.txn.specs.Readings.{model_read};
 
 use crate::{Change, Changes, Drafted, Reads, Request, TxnRefusal};
@@ -215,6 +215,14 @@ impl Txn {
             Some(Change::Del) => &[],
             None => &[],
         }
+    }
+
+    /// The rules that each transaction keeps.
+    pub fn rules(&self)
+        ensures { IsTxn self.now }
+    {
+        // They are known where a field is read.
+        let _ = &self.seen;
     }
 
     /// The size and the digest of the content that it puts under a key, where it does.

@@ -1,11 +1,25 @@
-use Rattle.std.proofs.Common.{sym, subst, ap, ◌∙◌, ◌++◌, List, ℕ}
-use Rattle.blob_steps.specs.Answers.{line_of_answer}
-use Rattle.blob_steps.specs.Steps.{CameTo}
-use Rattle.blob_steps.specs.Words.{model_step}
+use Rattle.std.proofs.Common.{refl, subst, sym}
+use Rattle.blob_script.specs.Words.{model_step}
+use Rattle.blob_script.specs.declared.status.Status.{Status}
+use Rattle.blob_steps.specs.Runs.{ShowsDamage}
+use Rattle.blob_steps.specs.Steps.{DoesPlay}
+use Rattle.blob_steps.specs.declared.world.Played.{Played}
+use Rattle.blob_steps.proofs.OnTheWay.{ShowsDamage-ending}
 use Rattle.blob_steps.proofs.run.Run.do_step.Goals as goal
-use Rattle.store_model.specs.OneSession.Play.{step_play}
 
-pub returns-in-Ok-print-clause-step : goal.returns-in-Ok-print-clause-step
-returns-in-Ok-print-clause-step g c = λ world is.
-    subst (λ (text : List ℕ). CameTo g.D.Disk world (step_play c.step.new.self.store.layout world (model_step c.args.step)) text c.step.new.self c.args.disk.now c.step.new.disk)
-    (sym (c.in-Ok-print.ensures ∙ ap (λ (front : List ℕ). front ++ line_of_answer c.in-Ok.answer) c.clear.ensures)) (c.in-Ok.ensures.step world is)
+pub returns-in-Ok-Answered-clause-step : goal.returns-in-Ok-Answered-clause-step
+returns-in-Ok-Answered-clause-step g c = λ world is.
+    subst (λ (p : Played). DoesPlay g.D.Disk world (model_step c.args.step) c.step.new.text c.args.self.now.world c.step.new.self c.args.disk.now c.step.new.disk p)
+    c.in-Ok-Answered.field-0-is (c.in-Ok-Answered.ensures.play world is)
+
+pub returns-in-Ok-NotBuilt-clause-unbuilt : goal.returns-in-Ok-NotBuilt-clause-unbuilt
+returns-in-Ok-NotBuilt-clause-unbuilt g c = λ world is.
+    let none =
+    subst (λ (p : Played). DoesPlay g.D.Disk world (model_step c.args.step) c.step.new.text c.args.self.now.world c.step.new.self c.args.disk.now c.step.new.disk p)
+    c.in-Ok-NotBuilt.field-0-is (c.in-Ok-NotBuilt.ensures.play world is) in
+    (refl, none.0, none.1)
+
+pub returns-in-Err-clause-damage : goal.returns-in-Err-clause-damage
+returns-in-Err-clause-damage g c = λ world is.
+    subst (λ (s : Status). ShowsDamage s world.store.objects) (sym c.step_status.ensures)
+    (ShowsDamage-ending c.in-Err.fault world.store.objects (c.in-Err.ensures.stepped.damage world is))

@@ -1,56 +1,73 @@
-use Rattle.std.proofs.Common.{◌≡◌, ◌∙◌, arith, ap, refl, sym}
-use Rattle.disk_model.proofs.DiskLaws.{Keeps-none}
-use Rattle.std.specs.FinMap.{len-empty}
-use Rattle.store_model.specs.Key.{key_order}
-use Rattle.store_model.specs.OneSession.Transaction.{Change}
-use Rattle.blob_steps.specs.declared.answer.Answer.TheVariants.{Idle, Session}
-use Rattle.blob_steps.specs.Answers.{model_line}
-use Rattle.blob_steps.specs.Sessions.{model_session, change_count}
-use Rattle.blob_steps.specs.Steps.{queue_of}
-use Rattle.blob_steps.proofs.Turns.{CameTo-idle, CameTo-waiting, nobody_waits}
+use Rattle.std.proofs.Common.{◌≡◌, ◌==◌, ◌<◌, ℕ, List, ◌++◌, length, false, true, refl, sym, ◌∙◌, ap, arith}
+use Rattle.std.proofs.lemmas.Bool.Decides.{nat_tests}
+use Rattle.std.proofs.lemmas.List.{nil_from_length}
+use Rattle.blob_store.specs.Stores.{ledger_in}
+use Rattle.store_model.specs.Answer as answer
+use Rattle.store_model.specs.Answer.{answer_text}
+use Rattle.store_model.specs.Group.{no_tally}
+use Rattle.blob_steps.specs.declared.world.World.{World}
+use Rattle.blob_steps.proofs.Leading.{HasLed, came-led, group_members, lead-none, led-begun, led-sound, replies-count, replies-few, stands-led}
+use Rattle.blob_steps.proofs.Members.{AreOf-members}
 use Rattle.blob_steps.proofs.world.World.lead.Goals as goal
 
-pub returns-in_ok-line-in-Waiting-clause-stepped : goal.returns-in_ok-line-in-Waiting-clause-stepped
-returns-in_ok-line-in-Waiting-clause-stepped g c =
-    let done = c.in_ok-line-in-Waiting.ensures in
+pub returns-then-is_empty-clause-came : goal.returns-then-is_empty-clause-came
+returns-then-is_empty-clause-came g c = λ world is.
+    let mine = c.args.self.now in
+    let empty : (length mine.queue == 0) ≡ true = sym c.is_empty.ensures ∙ c.if-is_empty.true in
+    lead-none g.D.Disk mine world c.print.new.out c.args.disk.now is (nil_from_length mine.queue (grind (arith, nat_tests, empty)))
+    (c.in_ok-print.ensures ∙ ap (λ (front : List ℕ). front ++ answer_text answer.Idle) c.requires.none)
+
+pub reply_all-requires-clause-few : goal.reply_all-requires-clause-few
+reply_all-requires-clause-few g c =
+    let sound = c.requires.sound in
+    replies-few (ledger_in c.args.self.now.store) c.args.self.now.queue c.in_ok-replies.replies (c.in_ok-replies.ensures.led sound.some.0.store sound.some.1.store).replies_are
+
+pub returns-clause-came : goal.returns-clause-came
+returns-clause-came g c = λ world is.
+    let mine = c.args.self.now in
+    let middle : World = record { store = c.lead.new.self; sessions = mine.sessions; queue = mine.queue } in
+    let replies = c.in_ok-replies.replies in
+    let led = c.in_ok-replies.ensures.led world.store is.store in
+    let filled : (length mine.queue == 0) ≡ false = sym c.is_empty.ensures ∙ c.if-is_empty.false in
+    let some : 0 < length mine.queue = grind (arith, nat_tests, filled) in
+    came-led g.D.Disk mine middle c.reply_all.new.self replies c.args.disk.now c.lead.new.disk c.requires.sound world is led (length replies) c.reply_all.new.text
+    (record {
+      sound = c.requires.sound;
+      sessions = refl;
+      queue = refl;
+      layout = c.lead.ensures.layout;
+      store = c.in_ok-replies.ensures.sound;
+      are = AreOf-members (ledger_in mine.store) (no_tally (ledger_in mine.store)) mine.queue;
+      count = replies-count replies (group_members g.D.Disk mine middle c.reply_all.new.self replies c.args.disk.now c.lead.new.disk c.requires.sound) led.replies_are;
+      replied = c.in_ok-reply_all.ensures.replied;
+    }) some c.in_ok-reply_all.ensures.text
+
+pub returns-clause-stepped : goal.returns-clause-stepped
+returns-clause-stepped g c =
+    let mine = c.args.self.now in
+    let middle : World = record { store = c.lead.new.self; sessions = mine.sessions; queue = mine.queue } in
+    let replies = c.in_ok-replies.replies in
+    let world = c.requires.sound.some.0 in
+    let is = c.requires.sound.some.1 in
+    let led = c.in_ok-replies.ensures.led world.store is.store in
+    let members = group_members g.D.Disk mine middle c.reply_all.new.self replies c.args.disk.now c.lead.new.disk c.requires.sound in
+    let done : HasLed mine middle c.reply_all.new.self members (length replies) = record {
+      sound = c.requires.sound;
+      sessions = refl;
+      queue = refl;
+      layout = c.lead.ensures.layout;
+      store = c.in_ok-replies.ensures.sound;
+      are = AreOf-members (ledger_in mine.store) (no_tally (ledger_in mine.store)) mine.queue;
+      count = replies-count replies members led.replies_are;
+      replied = c.in_ok-reply_all.ensures.replied;
+    } in
     record {
-      sound = done.sound;
-      grown = omega (
-        arith,
-        done.last,
-        ap (λ s. change_count (model_session s)) c.in-Waiting.ensures.value,
-        ap (λ s. change_count (model_session s)) c.in-Waiting.ensures.after,
-        len-empty key_order Change,
-      );
-      layout = c.commit.ensures.layout;
-      keeps = c.commit.ensures.keeps;
+      sound = led-sound mine middle c.reply_all.new.self members (length replies) done _
+          (stands-led g.D.Disk mine middle c.reply_all.new.self replies c.args.disk.now c.lead.new.disk c.requires.sound world is led (length replies) done);
+      begun = led-begun mine middle c.reply_all.new.self members (length replies) done;
+      layout = ap (λ s. s.layout) c.reply_all.ensures.store ∙ c.lead.ensures.layout;
+      keeps = c.lead.ensures.keeps;
       raised = tt;
       damage = λ world is. tt;
       whole = λ told world is stand. tt;
-    }
-
-pub returns-in_ok-line-in-Waiting-clause-lead : goal.returns-in_ok-line-in-Waiting-clause-lead
-returns-in_ok-line-in-Waiting-clause-lead g c = λ world is.
-    let done = c.in_ok-line-in-Waiting.ensures in
-    let transaction = c.in-Waiting.transaction in
-    CameTo-waiting g.D.Disk c.args.disk.now c.commit.new.disk c.args.self.now _ world transaction (model_line c.in_ok-line-in-Waiting.line) (Session 0 c.in_ok-line-in-Waiting.line) is
-    (ap model_session (sym c.in-Waiting.ensures.value)) (ap model_session c.in-Waiting.ensures.after) refl
-    (done.replied world.store transaction (sym c.into_changes.ensures) is.store)
-
-pub returns-in_default : goal.returns-in_default
-returns-in_default g c =
-    let same : c.replace.result ≡ c.args.self.now.session = c.replace.ensures.value in
-    record {
-      lead = λ world is.
-          CameTo-idle g.D.Disk c.args.disk.now c.args.self.now (record { store = c.args.self.now.store; session = c.replace.result }) world Idle is
-          (ap (λ s. queue_of (model_session s)) (sym same) ∙ nobody_waits c.replace.result c.in_default.not-Waiting) refl refl (ap model_session same);
-      stepped = record {
-        sound = c.requires.sound;
-        grown = omega (arith, ap (λ s. change_count (model_session s)) same);
-        layout = refl;
-        keeps = Keeps-none g.D.Disk c.args.disk.now;
-        raised = tt;
-        damage = λ world is. tt;
-        whole = λ told world is stand. tt;
-      };
     }

@@ -1,33 +1,90 @@
-use Rattle.std.proofs.Common.{rules, sym, ◌∙◌, ap, refl}
-use Rattle.store_model.specs.Store.{content_at}
-use Rattle.blob_steps.specs.Answers.{model_line}
-use Rattle.blob_steps.specs.Sessions.{model_session, got_line, look_action, show_of}
-use Rattle.blob_steps.proofs.Turns.{CameTo-known, CameTo-looked, number_at-stored}
+use Rattle.std.proofs.Common.{List, ℕ, refl, ◌∙◌, ap, ◌++◌, Some, None}
+use Rattle.std.proofs.lemmas.Result.{err_from_is_err_and}
+use Rattle.blob_script.specs.Answers.{model_line}
+use Rattle.blob_script.specs.declared.answer.AnswerLine.{AnswerLine}
+use Rattle.disk_model.proofs.DiskLaws.{Keeps-none}
+use Rattle.std.specs.FinMap.{get}
+use Rattle.blob_store.specs.Looks.{show_of}
+use Rattle.store_model.specs.Answer as answer
+use Rattle.store_model.specs.World.{transaction_of}
+use Rattle.txn.specs.Txns.{own_bytes}
+use Rattle.store_model.specs.Answer.{answer_text}
+use Rattle.blob_steps.proofs.Looking.{came-line, came-own, came-stored, look-moves}
+use Rattle.blob_steps.proofs.world.World.look.Goals.{in-Line, in-Stored+in_ok-line-in-Stored}
+use Rattle.blob_steps.specs.declared.world.World.{World}
 use Rattle.blob_steps.proofs.world.World.look.Goals as goal
 
-pub returns-in-Line-clause-turn : goal.returns-in-Line-clause-turn
-returns-in-Line-clause-turn g c = λ world is.
-    let key = c.args.key.now in
-    let got = c.in_ok-line.ensures.turn world.store (number_at-stored _ world.store key is.store.objects ∙ sym c.number-now.ensures) in
-    CameTo-known g.D.Disk c.args.disk.now c.args.self.now _ (model_session c.look.new.self) world (look_action c.args.look key) (model_line c.in-Line.line) is refl refl
-    (got ∙ ap (λ l. record { line = l; session = model_session c.look.new.self }) (ap (got_line c.args.look world.store key) c.in-Line.is))
+pub returns-in-Own-clause-came : goal.returns-in-Own-clause-came
+returns-in-Own-clause-came g c = λ world is.
+    let mine = c.args.self.now in
+    let new : World = record { store = mine.store; sessions = c.find.new.sessions; queue = mine.queue } in
+    came-own mine new c.args.session c.args.key.now c.in_ok-line.field-0 c.requires.sound refl refl c.in_ok-line.ensures g.D.Disk c.args.look world is
+    c.show_own.new.text c.args.disk.now c.args.disk.now c.in-Own.is refl
+    (λ later stands put. c.in_ok-show_own-in-Own.ensures later stands put
+    ∙ ap (λ (front : List ℕ). front ++ answer_text (answer.Session c.args.session
+    (show_of c.args.look (Some (own_bytes (get (transaction_of (later.sessions c.args.session).stage).changes c.args.key.now)))) None)) c.requires.none)
 
-pub returns-in-Stored-clause-turn : goal.returns-in-Stored-clause-turn
-returns-in-Stored-clause-turn g c = λ world is.
-    let key = c.args.key.now in
-    let got = c.in_ok-line.ensures.turn world.store (number_at-stored _ world.store key is.store.objects ∙ sym c.number-now.ensures) in
-    let turned = got ∙ ap (λ l. record { line = l; session = model_session c.look.new.self }) (ap (got_line c.args.look world.store key) c.in-Stored.is) in
-    CameTo-looked g.D.Disk c.args.disk.now c.show.new.disk c.args.self.now _ (model_session c.look.new.self) world (look_action c.args.look key)
-    (show_of c.args.look (content_at world.store key)) c.show.result is refl refl turned
-    (λ told stand. c.show.ensures.line told world.store.objects is.store.objects stand) c.show.ensures.only_reads c.show.ensures.reads
+pub returns-in-Own-clause-stepped : goal.returns-in-Own-clause-stepped
+returns-in-Own-clause-stepped g c =
+    let mine = c.args.self.now in
+    let new : World = record { store = mine.store; sessions = c.find.new.sessions; queue = mine.queue } in
+    let moves = look-moves mine new c.args.session c.args.key.now c.in_ok-line.field-0 c.requires.sound refl refl c.in_ok-line.ensures c.args.look in
+    record {
+      sound = moves.sound;
+      begun = moves.begun;
+      layout = refl;
+      keeps = Keeps-none g.D.Disk c.args.disk.now;
+      raised = tt;
+      damage = λ world is. tt;
+      whole = λ told world is stand. tt;
+    }
 
-pub returns-in-Stored-clause-stepped : goal.returns-in-Stored-clause-stepped
-returns-in-Stored-clause-stepped g c = record {
-  sound = search rules;
-  grown = search rules;
-  layout = refl;
-  keeps = c.show.ensures.only_reads.keeps;
-  raised = c.show.ensures.raised;
-  damage = λ world is. c.show.ensures.damage world.store.objects is.store.objects;
-  whole = λ told world is stand. c.show.ensures.whole told world.store.objects is.store.objects stand;
-}
+pub returns-in_err-line-in-Stored-clause-stepped : goal.returns-in_err-line-in-Stored-clause-stepped
+returns-in_err-line-in-Stored-clause-stepped g c =
+    let p = err_from_is_err_and c.from_residual-in_err-line-in-Stored.result c.from_residual-in_err-line-in-Stored.ensures.1 in
+    let shown = c.in_err-line-in-Stored.ensures in
+    rw (p.1, p.2)
+    (record {
+      sound = tt;
+      begun = λ n have. tt;
+      layout = refl;
+      keeps = shown.only_reads.keeps;
+      raised = shown.raised;
+      damage = λ world is. shown.damage world.store.objects is.store.objects;
+      whole = λ told world is stand. shown.whole told world.store.objects is.store.objects stand;
+    })
+
+pub returns-clause-came : goal.returns-clause-came
+returns-clause-came g c = λ world is.
+    let mine = c.args.self.now in
+    let new : World = record { store = mine.store; sessions = c.find.new.sessions; queue = mine.queue } in
+    let text = c.in_ok-answer.ensures ∙ ap (λ (front : List ℕ). front ++ answer_text (answer.Session c.args.session (model_line c.match-branch-2.line) None)) c.requires.none in
+    elim c.match-branch-2.branch [
+      | in-Line w ↦
+          came-line mine new c.args.session c.args.key.now c.in_ok-line.field-0 c.requires.sound refl refl c.in_ok-line.ensures g.D.Disk c.args.look world is
+          c.answer.new.text w.in-Line.line c.args.disk.now c.match-branch-2.disk w.in-Line.is w.disk-is
+          (text ∙ ap (λ (l : AnswerLine). answer_text (answer.Session c.args.session (model_line l) None)) w.line-is)
+      | in-Stored+in_ok-line-in-Stored w ↦
+          (let shown = w.in_ok-line-in-Stored.ensures in
+          came-stored mine new c.args.session c.args.key.now c.in_ok-line.field-0 c.requires.sound refl refl c.in_ok-line.ensures g.D.Disk c.args.look world is
+          c.answer.new.text w.show.result w.in_ok-line-in-Stored.line c.args.disk.now c.match-branch-2.disk w.in_ok-line-in-Stored.was w.in-Stored.is (rw w.disk-is shown.only_reads) (rw w.disk-is shown.reads) w.show.ensures.line
+          (text ∙ ap (λ (l : AnswerLine). answer_text (answer.Session c.args.session (model_line l) None)) w.line-is))
+    ]
+
+pub returns-clause-stepped : goal.returns-clause-stepped
+returns-clause-stepped g c =
+    let mine = c.args.self.now in
+    let new : World = record { store = mine.store; sessions = c.find.new.sessions; queue = mine.queue } in
+    let moves = look-moves mine new c.args.session c.args.key.now c.in_ok-line.field-0 c.requires.sound refl refl c.in_ok-line.ensures c.args.look in
+    record {
+      sound = moves.sound;
+      begun = moves.begun;
+      layout = refl;
+      keeps = elim c.match-branch-2.branch [
+        | in-Line w ↦ rw w.disk-is (Keeps-none g.D.Disk c.args.disk.now)
+        | in-Stored+in_ok-line-in-Stored w ↦ rw w.disk-is w.in_ok-line-in-Stored.ensures.only_reads.keeps
+      ];
+      raised = tt;
+      damage = λ world is. tt;
+      whole = λ told world is stand. tt;
+    }

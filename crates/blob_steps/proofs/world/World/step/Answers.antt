@@ -1,14 +1,22 @@
-use Rattle.std.proofs.Common.{sym, subst}
-use Rattle.blob_steps.specs.Answers.{model_line}
-use Rattle.blob_steps.specs.Steps.{CameTo}
-use Rattle.blob_steps.specs.Words.{model_action}
-use Rattle.store_model.specs.OneSession.Answer.{answer_text}
-use Rattle.store_model.specs.OneSession.Play.{step_play}
-use Rattle.store_model.specs.OneSession.Script.{Session}
+use Rattle.std.proofs.Common.{Err, ◌∙◌, ap}
+use Rattle.std.proofs.lemmas.Result.{err_from_is_err_and}
+use Rattle.blob_script.specs.Words.{model_step}
+use Rattle.blob_script.specs.declared.step.Step.{Step}
+use Rattle.store_model.specs.Play.{step_play}
+use Rattle.store_model.specs.World.{lead}
+use Rattle.blob_steps.proofs.Answering.{Stepped-err}
 use Rattle.blob_steps.proofs.world.World.step.Goals as goal
 
-pub returns-in_ok-line-in-Session-clause-step : goal.returns-in_ok-line-in-Session-clause-step
-returns-in_ok-line-in-Session-clause-step g c = rw c.in-Session.is (λ world is.
-    subst (λ n. CameTo g.D.Disk world (step_play c.turn.new.self.store.layout world (Session n (model_action c.in-Session.action)))
-    (answer_text n (model_line c.in_ok-line-in-Session.line)) c.turn.new.self c.args.disk.now c.turn.new.disk) (sym (rw c.in-Session.is at c.requires.played))
-    (c.in_ok-line-in-Session.ensures.turn world is))
+pub returns-in_err-lead-in-Lead-clause-stepped : goal.returns-in_err-lead-in-Lead-clause-stepped
+returns-in_err-lead-in-Lead-clause-stepped g c =
+    let p = err_from_is_err_and c.from_residual.result c.from_residual.ensures.1 in
+    Stepped-err g.D.Disk c.args.disk.now c.lead.new.disk c.args.self.now c.lead.new.self c.lead.result c.from_residual.result c.in_err-lead-in-Lead.field-0.0
+    c.in_err-lead-in-Lead.was (p.1 ∙ ap Err p.2) c.lead.ensures.stepped
+
+pub returns-in-Session-clause-play : goal.returns-in-Session-clause-play
+returns-in-Session-clause-play g c = λ world is. rw c.in-Session.is (c.turn.ensures.play world is)
+
+pub returns-in_ok-lead-in-Lead-clause-play : goal.returns-in_ok-lead-in-Lead-clause-play
+returns-in_ok-lead-in-Lead-clause-play g c = λ world is.
+    let layout = c.args.self.now.store.layout in
+    (lead layout world, ap (λ (s : Step). step_play layout world (model_step s)) c.in-Lead.is, c.in_ok-lead-in-Lead.ensures.came world is)

@@ -1,28 +1,85 @@
-use Rattle.std.proofs.Common.{arith, refl}
-use Rattle.store_model.specs.Store.{empty_store}
-use Rattle.store_model.specs.OneSession.Turn.{Begin, Put, Commit}
+use Rattle.std.proofs.Common.{Err, List, ℕ, refl, ◌∙◌, ap, ◌++◌, None}
+use Rattle.std.proofs.lemmas.Result.{err_from_is_err_and}
+use Rattle.blob_script.specs.Answers.{model_line}
 use Rattle.blob_script.specs.Contents.{content_bytes}
-use Rattle.blob_steps.specs.Answers.{model_line}
-use Rattle.blob_steps.specs.Sessions.{model_session}
-use Rattle.blob_steps.proofs.Turns.{CameTo-known, Stepped-answered, change_count-turned}
+use Rattle.blob_script.specs.Words.{model_action}
+use Rattle.blob_script.specs.declared.action.Action.{Action}
+use Rattle.store_model.specs.Answer as answer
+use Rattle.store_model.specs.Answer.{answer_text}
+use Rattle.store_model.specs.Play.{action_play, transact}
+use Rattle.store_model.specs.Turn as turn
+use Rattle.blob_script.specs.declared.answer.AnswerLine.{AnswerLine}
+use Rattle.blob_steps.specs.Steps.{TakesTurn}
+use Rattle.blob_steps.specs.declared.world.Played.TheVariants.{Answered}
+use Rattle.blob_steps.proofs.Answering.{Stepped-err, ok-is, turn-plays, turn-stepped}
+use Rattle.blob_steps.proofs.world.World.turn.Goals.{in-Begin, in-Commit+in_ok-line-in-Commit, in-Abort, in-Put+in_ok-line-in-Put+in-Hex-1, in-Put+in_ok-line-in-Put+in-Made-1, in-Del+in_ok-line-in-Del}
 use Rattle.blob_steps.proofs.world.World.turn.Goals as goal
 
-pub returns-in-Begin-clause-stepped : goal.returns-in-Begin-clause-stepped
-returns-in-Begin-clause-stepped g c =
-    Stepped-answered g.D.Disk c.args.disk.now c.args.self.now _ _ c.requires.sound refl
-    (omega (arith, change_count-turned empty_store _ _ Begin _ (c.begin.ensures empty_store)))
+pub returns-in_err-look-in-Get-clause-stepped : goal.returns-in_err-look-in-Get-clause-stepped
+returns-in_err-look-in-Get-clause-stepped g c =
+    let p = err_from_is_err_and c.from_residual-in_err-look-in-Get.result c.from_residual-in_err-look-in-Get.ensures.1 in
+    Stepped-err g.D.Disk c.args.disk.now c.look.new.disk c.args.self.now c.look.new.self c.look.result c.from_residual-in_err-look-in-Get.result c.in_err-look-in-Get.field-0.0
+    c.in_err-look-in-Get.was (p.1 ∙ ap Err p.2) c.look.ensures.stepped
 
-pub returns-in-Commit-clause-stepped : goal.returns-in-Commit-clause-stepped
-returns-in-Commit-clause-stepped g c =
-    Stepped-answered g.D.Disk c.args.disk.now c.args.self.now _ _ c.requires.sound refl
-    (omega (arith, change_count-turned empty_store _ _ Commit _ (c.commit.ensures empty_store)))
+pub returns-in-Get-clause-play : goal.returns-in-Get-clause-play
+returns-in-Get-clause-play g c = λ world is.
+    (transact world c.args.session (turn.Get c.in-Get.key), ap (λ (a : Action). action_play world c.args.session (model_action a)) c.in-Get.is, c.in_ok-look-in-Get.ensures.came world is)
 
-pub returns-in_ok-put-in-Put-clause-stepped : goal.returns-in_ok-put-in-Put-clause-stepped
-returns-in_ok-put-in-Put-clause-stepped g c =
-    Stepped-answered g.D.Disk c.args.disk.now c.args.self.now _ _ c.requires.sound refl
-    (omega (arith, change_count-turned empty_store _ _ (Put c.in-Put.key (content_bytes c.in-Put.content)) _ (c.in_ok-put-in-Put.ensures empty_store)))
+pub returns-in_err-look-in-Stat-clause-stepped : goal.returns-in_err-look-in-Stat-clause-stepped
+returns-in_err-look-in-Stat-clause-stepped g c =
+    let p = err_from_is_err_and c.from_residual-in_err-look-in-Stat.result c.from_residual-in_err-look-in-Stat.ensures.1 in
+    Stepped-err g.D.Disk c.args.disk.now c.look-in-Stat.new.disk c.args.self.now c.look-in-Stat.new.self c.look-in-Stat.result c.from_residual-in_err-look-in-Stat.result c.in_err-look-in-Stat.field-0.0
+    c.in_err-look-in-Stat.was (p.1 ∙ ap Err p.2) c.look-in-Stat.ensures.stepped
 
-pub returns-in_ok-put-in-Put-clause-turn : goal.returns-in_ok-put-in-Put-clause-turn
-returns-in_ok-put-in-Put-clause-turn g c = rw c.in-Put.is (λ world is.
-    CameTo-known g.D.Disk c.args.disk.now c.args.self.now _ (model_session c.put.new.self) world (Put c.in-Put.key (content_bytes c.in-Put.content)) (model_line c.in_ok-put-in-Put.field-0)
-    is refl refl (c.in_ok-put-in-Put.ensures world.store))
+pub returns-in-Stat-clause-play : goal.returns-in-Stat-clause-play
+returns-in-Stat-clause-play g c = λ world is.
+    (transact world c.args.session (turn.Stat c.in-Stat.key), ap (λ (a : Action). action_play world c.args.session (model_action a)) c.in-Stat.is, c.in_ok-look-in-Stat.ensures.came world is)
+
+pub returns-clause-play : goal.returns-clause-play
+returns-clause-play g c = λ world is.
+    let mine = c.args.self.now in
+    let text = c.in_ok-answer.ensures ∙ ap (λ (front : List ℕ). front ++ answer_text (answer.Session c.args.session (model_line c.match-action.line) None)) c.requires.none in
+    elim c.match-action.branch [
+      | in-Begin w ↦
+          turn-plays g.D.Disk mine w.begin-line.new.self c.match-action.self c.args.session turn.Begin (model_action c.args.action) w.begin-line.result c.match-action.line c.answer.new.text c.args.disk.now world is
+          w.begin-line.ensures w.self-is w.line-is (ap (λ (a : Action). model_action a) w.in-Begin.is) refl text
+      | in-Commit+in_ok-line-in-Commit w ↦
+          turn-plays g.D.Disk mine w.commit.new.self c.match-action.self c.args.session turn.Commit (model_action c.args.action) w.in_ok-line-in-Commit.line c.match-action.line c.answer.new.text c.args.disk.now world is
+          (ok-is (λ (l : AnswerLine). TakesTurn mine w.commit.new.self c.args.session turn.Commit (model_line l)) w.commit.result w.in_ok-line-in-Commit.line w.in_ok-line-in-Commit.was w.commit.ensures.turn) w.self-is w.line-is (ap (λ (a : Action). model_action a) w.in-Commit.is) refl text
+      | in-Abort w ↦
+          turn-plays g.D.Disk mine w.abort-line.new.self c.match-action.self c.args.session turn.Abort (model_action c.args.action) w.abort-line.result c.match-action.line c.answer.new.text c.args.disk.now world is
+          w.abort-line.ensures w.self-is w.line-is (ap (λ (a : Action). model_action a) w.in-Abort.is) refl text
+      | in-Put+in_ok-line-in-Put+in-Hex-1 w ↦
+          turn-plays g.D.Disk mine w.put.new.self c.match-action.self c.args.session (turn.Put w.in-Put.key (content_bytes w.in-Put.content)) (model_action c.args.action) w.in_ok-line-in-Put.line c.match-action.line c.answer.new.text c.args.disk.now world is
+          (ok-is (λ (l : AnswerLine). TakesTurn mine w.put.new.self c.args.session (turn.Put w.in-Put.key (content_bytes w.in-Put.content)) (model_line l)) w.put.result w.in_ok-line-in-Put.line w.in_ok-line-in-Put.was w.put.ensures.turn) w.self-is w.line-is (ap (λ (a : Action). model_action a) w.in-Put.is) refl text
+      | in-Put+in_ok-line-in-Put+in-Made-1 w ↦
+          turn-plays g.D.Disk mine w.put.new.self c.match-action.self c.args.session (turn.Put w.in-Put.key (content_bytes w.in-Put.content)) (model_action c.args.action) w.in_ok-line-in-Put.line c.match-action.line c.answer.new.text c.args.disk.now world is
+          (ok-is (λ (l : AnswerLine). TakesTurn mine w.put.new.self c.args.session (turn.Put w.in-Put.key (content_bytes w.in-Put.content)) (model_line l)) w.put.result w.in_ok-line-in-Put.line w.in_ok-line-in-Put.was w.put.ensures.turn) w.self-is w.line-is (ap (λ (a : Action). model_action a) w.in-Put.is) refl text
+      | in-Del+in_ok-line-in-Del w ↦
+          turn-plays g.D.Disk mine w.del.new.self c.match-action.self c.args.session (turn.Delete w.in-Del.key) (model_action c.args.action) w.in_ok-line-in-Del.line c.match-action.line c.answer.new.text c.args.disk.now world is
+          (ok-is (λ (l : AnswerLine). TakesTurn mine w.del.new.self c.args.session (turn.Delete w.in-Del.key) (model_line l)) w.del.result w.in_ok-line-in-Del.line w.in_ok-line-in-Del.was w.del.ensures.turn) w.self-is w.line-is (ap (λ (a : Action). model_action a) w.in-Del.is) refl text
+    ]
+
+pub returns-clause-stepped : goal.returns-clause-stepped
+returns-clause-stepped g c =
+    let mine = c.args.self.now in
+    elim c.match-action.branch [
+      | in-Begin w ↦
+          turn-stepped g.D.Disk mine w.begin-line.new.self c.match-action.self c.args.session turn.Begin (model_line w.begin-line.result) c.args.disk.now Answered
+          w.begin-line.ensures w.self-is
+      | in-Commit+in_ok-line-in-Commit w ↦
+          turn-stepped g.D.Disk mine w.commit.new.self c.match-action.self c.args.session turn.Commit (model_line w.in_ok-line-in-Commit.line) c.args.disk.now Answered
+          (ok-is (λ (l : AnswerLine). TakesTurn mine w.commit.new.self c.args.session turn.Commit (model_line l)) w.commit.result w.in_ok-line-in-Commit.line w.in_ok-line-in-Commit.was w.commit.ensures.turn) w.self-is
+      | in-Abort w ↦
+          turn-stepped g.D.Disk mine w.abort-line.new.self c.match-action.self c.args.session turn.Abort (model_line w.abort-line.result) c.args.disk.now Answered
+          w.abort-line.ensures w.self-is
+      | in-Put+in_ok-line-in-Put+in-Hex-1 w ↦
+          turn-stepped g.D.Disk mine w.put.new.self c.match-action.self c.args.session (turn.Put w.in-Put.key (content_bytes w.in-Put.content)) (model_line w.in_ok-line-in-Put.line) c.args.disk.now Answered
+          (ok-is (λ (l : AnswerLine). TakesTurn mine w.put.new.self c.args.session (turn.Put w.in-Put.key (content_bytes w.in-Put.content)) (model_line l)) w.put.result w.in_ok-line-in-Put.line w.in_ok-line-in-Put.was w.put.ensures.turn) w.self-is
+      | in-Put+in_ok-line-in-Put+in-Made-1 w ↦
+          turn-stepped g.D.Disk mine w.put.new.self c.match-action.self c.args.session (turn.Put w.in-Put.key (content_bytes w.in-Put.content)) (model_line w.in_ok-line-in-Put.line) c.args.disk.now Answered
+          (ok-is (λ (l : AnswerLine). TakesTurn mine w.put.new.self c.args.session (turn.Put w.in-Put.key (content_bytes w.in-Put.content)) (model_line l)) w.put.result w.in_ok-line-in-Put.line w.in_ok-line-in-Put.was w.put.ensures.turn) w.self-is
+      | in-Del+in_ok-line-in-Del w ↦
+          turn-stepped g.D.Disk mine w.del.new.self c.match-action.self c.args.session (turn.Delete w.in-Del.key) (model_line w.in_ok-line-in-Del.line) c.args.disk.now Answered
+          (ok-is (λ (l : AnswerLine). TakesTurn mine w.del.new.self c.args.session (turn.Delete w.in-Del.key) (model_line l)) w.del.result w.in_ok-line-in-Del.line w.in_ok-line-in-Del.was w.del.ensures.turn) w.self-is
+    ]

@@ -1,0 +1,252 @@
+-- Turns of sessions, over the program's world.
+use Rattle.std.proofs.Common.{◌≡◌, ◌==◌, ℕ, zero, suc, ◌+◌, ◌<◌, ◌≤◌, Bool, true, false, cond, List, [], ◌∷◌, length, Option, Some, None, inl, inr, refl, sym, ◌∙◌, ap, subst, arith}
+use Rattle.std.proofs.lemmas.Bool.{cases_Bool}
+use Rattle.std.proofs.lemmas.Bool.Decides.{nat_tests}
+use Rattle.std.proofs.lemmas.List.{length-set}
+use Rattle.std.specs.Prelude.{option_map, slice_get, slice_index_or, map, Result, Ok, Err, IfOk, OnOk}
+use Rattle.std.proofs.lemmas.Option.{slice_get-get_or}
+use Rattle.std.specs.List.{slice_set as set}
+use Rattle.store_model.specs.Answer as answer
+use Rattle.store_model.specs.Play.{queue_after, turned}
+use Rattle.store_model.specs.Standing.{BothStand}
+use Rattle.store_model.specs.State.{State}
+use Rattle.store_model.specs.Store.{Object, Store, number_at}
+use Rattle.std.specs.FinMap.{get}
+use Rattle.store_model.specs.Transaction.{Transaction}
+use Rattle.store_model.specs.Turn as turn
+use Rattle.store_model.specs.Turn.{begun_after, session_after, stage_turn}
+use Rattle.store_model.specs.World as model
+use Rattle.store_model.specs.World.{with_session}
+use Rattle.txn.specs.Requests.{transaction_of}
+use Rattle.txn.specs.declared.request.Request.{Request}
+use Rattle.blob_steps.specs.Sessions.{HasTurned, IsNotOpen, IsSet, SessionStands, StageStands, TurnsTo}
+use Rattle.blob_steps.specs.Steps.{HaveBegun, IsWorld, RequestStands, TakesTurn, WorldStands}
+use Rattle.blob_store.specs.Stores.{AreWhole, IsSound, StoreStands}
+use Rattle.blob_steps.specs.declared.session.Session.{Session}
+use Rattle.blob_steps.specs.declared.session.Stage.{Stage}
+use Rattle.blob_steps.specs.declared.session.Stage.TheVariants.{Free, Open, Waiting}
+use Rattle.blob_store.specs.declared.store.Store.{Store as MineStore}
+use Rattle.blob_steps.specs.declared.world.World.{World}
+
+-- one element of a list was set
+pub get-set_here : {X : Type 0} (xs : List X) (i : ℕ) (y was : X) → slice_get xs i ≡ Some was → slice_get (set xs i y) i ≡ Some y
+get-set_here [] i y was is = absurd (cc is)
+get-set_here (x ∷ xs) zero y was is = refl
+get-set_here (x ∷ xs) (suc i) y was is = get-set_here xs i y was is
+
+pub get-set_there : {X : Type 0} (xs : List X) (i j : ℕ) (y : X) → (i == j) ≡ false → slice_get (set xs i y) j ≡ slice_get xs j
+get-set_there [] i j y apart = refl
+get-set_there (x ∷ xs) zero zero y apart = absurd (cc apart)
+get-set_there (x ∷ xs) zero (suc j) y apart = refl
+get-set_there (x ∷ xs) (suc i) zero y apart = refl
+get-set_there (x ∷ xs) (suc i) (suc j) y apart = get-set_there xs i j y (grind (arith, nat_tests, apart))
+
+-- an element of a list
+pub get-at : {X : Type 0} (xs : List X) (i : ℕ) (x d : X) → i < length xs → x ≡ slice_index_or xs i d → slice_get xs i ≡ Some x
+get-at xs i x d less is = slice_get-get_or xs i d less ∙ ap Some (sym is)
+
+-- what holds of a value, where there is one
+pub if-ok : {X E : Type 0} {P Q : X → Type 0} (r : Result X E) → ((x : X) → P x → Q x) → IfOk r P → IfOk r Q
+if-ok (Ok x) more holds = more x holds
+if-ok (Err e) more holds = tt
+
+pub on-ok : {X E P Q : Type 0} (r : Result X E) → (P → Q) → OnOk r P → OnOk r Q
+on-ok (Ok x) more holds = more holds
+on-ok (Err e) more holds = tt
+
+-- a waiting session has begun as many after each action
+begun-waiting : (action : turn.Action) (transaction : Transaction) (begun : ℕ) → begun_after action (turn.Waiting transaction) begun ≡ begun
+begun-waiting turn.Begin transaction begun = refl
+begun-waiting (turn.Get key) transaction begun = refl
+begun-waiting (turn.Stat key) transaction begun = refl
+begun-waiting (turn.Put key content) transaction begun = refl
+begun-waiting (turn.Append key bytes) transaction begun = refl
+begun-waiting (turn.Delete key) transaction begun = refl
+begun-waiting turn.Commit transaction begun = refl
+begun-waiting turn.Abort transaction begun = refl
+
+-- a request stands after each action of its session
+pub RequestStands-turn : (store : Store) (request : Request) (theirs : turn.Session) (action : turn.Action) → RequestStands request theirs
+    → RequestStands request (session_after theirs action (turn.turn store theirs action))
+RequestStands-turn store request theirs action stands = record {
+  begun = ap (λ (s : turn.Stage). begun_after action s theirs.begun) stands.stage ∙ begun-waiting action (transaction_of request) theirs.begun ∙ stands.begun;
+  stage = ap (λ (s : turn.Stage). (stage_turn store s action).stage) stands.stage;
+}
+
+-- whether two numbers are the same
+pub same-number : (n m : ℕ) → (n == m) ≡ true → n ≡ m
+same-number n m is = grind (arith, nat_tests, is)
+
+pub same-self : (n : ℕ) → (n == n) ≡ true
+same-self n = grind (arith, nat_tests)
+
+-- the sessions where one of them is another
+pub session-here : (sessions : ℕ → turn.Session) (number : ℕ) (one : turn.Session) (n : ℕ) → (n == number) ≡ true → with_session sessions number one n ≡ one
+session-here sessions number one n is = ap (λ (b : Bool). cond b one (sessions n)) is
+
+pub session-there : (sessions : ℕ → turn.Session) (number : ℕ) (one : turn.Session) (n : ℕ) → (n == number) ≡ false → with_session sessions number one n ≡ sessions n
+session-there sessions number one n is = ap (λ (b : Bool). cond b one (sessions n)) is
+
+-- the sessions of the program where one of them was set
+pub one-set : (xs : List Session) (number n : ℕ) (later one : Session) → (n == number) ≡ true → slice_get (set xs number later) n ≡ Some one
+    → (was : Session) → slice_get xs number ≡ Some was → one ≡ later
+one-set xs number n later one same is was there =
+    let here : slice_get (set xs number later) n ≡ Some later = ap (slice_get (set xs number later)) (same-number n number same) ∙ get-set_here xs number later was there in
+    let both : Some one ≡ Some later = sym is ∙ here in cc
+
+pub other-set : (xs : List Session) (number n : ℕ) (later one : Session) → (n == number) ≡ false → slice_get (set xs number later) n ≡ Some one → slice_get xs n ≡ Some one
+other-set xs number n later one other is =
+    let apart : (number == n) ≡ false = grind (arith, nat_tests, other) in
+    sym (get-set_there xs number n later apart) ∙ is
+
+-- each session where one of them was set
+pub IsSet-each : (old new : List Session) (number : ℕ) (was later : Session) (P : ℕ → Session → Type 0) → IsSet old new number was later
+    → P number later → ((n : ℕ) (one : Session) → (n == number) ≡ false → slice_get old n ≡ Some one → P n one)
+    → (n : ℕ) (one : Session) → slice_get new n ≡ Some one → P n one
+IsSet-each old new number was later P set_is here others n one is =
+    let there : slice_get (set old number later) n ≡ Some one = subst (λ (xs : List Session). slice_get xs n ≡ Some one) set_is.new_is is in
+    elim (cases_Bool (n == number)) [
+      | inl same ↦
+          (let moved : one ≡ later = one-set old number n later one same there was set_is.there in
+          subst (λ (m : ℕ). P m one) (sym (same-number n number same)) (subst (P number) (sym moved) here))
+      | inr other ↦ others n one other (other-set old number n later one other there)
+    ]
+
+-- the one that was set
+pub get-later : (old new : List Session) (number : ℕ) (was later : Session) → IsSet old new number was later → slice_get new number ≡ Some later
+get-later old new number was later set_is = ap (λ (xs : List Session). slice_get xs number) set_is.new_is ∙ get-set_here old number later was set_is.there
+
+-- the sessions stand where one of them was set
+pub sessions-turned : (old new : List Session) (number : ℕ) (was later : Session) (sessions : ℕ → turn.Session) (theirs : turn.Session) → IsSet old new number was later
+    → SessionStands later number theirs → ((n : ℕ) (one : Session) → slice_get old n ≡ Some one → SessionStands one n (sessions n))
+    → (n : ℕ) (one : Session) → slice_get new n ≡ Some one → SessionStands one n (with_session sessions number theirs n)
+sessions-turned old new number was later sessions theirs set_is stands before =
+    IsSet-each old new number was later (λ n one. SessionStands one n (with_session sessions number theirs n)) set_is
+    (subst (SessionStands later number) (sym (session-here sessions number theirs number (same-self number))) stands)
+    (λ n one other is. subst (SessionStands one n) (sym (session-there sessions number theirs n other)) (before n one is))
+
+-- a request stands where a session took its turn
+pub request-turned : (store : Store) (sessions : ℕ → turn.Session) (number : ℕ) (action : turn.Action) (request : Request) → RequestStands request (sessions request.session)
+    → RequestStands request (with_session sessions number (session_after (sessions number) action (turn.turn store (sessions number) action)) request.session)
+request-turned store sessions number action request stands =
+    let after : turn.Session = session_after (sessions number) action (turn.turn store (sessions number) action) in
+    elim (cases_Bool (request.session == number)) [
+      | inl same ↦
+          (let is : request.session ≡ number = same-number request.session number same in
+          subst (RequestStands request) (sym (session-here sessions number after request.session same))
+          (RequestStands-turn store request (sessions number) action (subst (λ (n : ℕ). RequestStands request (sessions n)) is stands)))
+      | inr other ↦ subst (RequestStands request) (sym (session-there sessions number after request.session other)) stands
+    ]
+
+-- no session has begun more than one more
+pub begun-set : (mine new : World) (number : ℕ) (was later : Session) (n : ℕ) → IsSet mine.sessions.items new.sessions.items number was later → later.begun ≤ was.begun + 1
+    → HaveBegun n mine → HaveBegun (n + 1) new
+begun-set mine new number was later n set_is more have =
+    IsSet-each mine.sessions.items new.sessions.items number was later (λ k one. one.begun ≤ n + 1) set_is
+    (omega (arith, have number was set_is.there, more)) (λ k one other is. omega (arith, have k one is))
+
+-- a session that waits still does, where the one that was set does so if it did
+pub waits-set : (old new : List Session) (number : ℕ) (was later : Session) (at : ℕ) (one : Session) → IsSet old new number was later → (was.stage ≡ Waiting → later.stage ≡ Waiting)
+    → slice_get old at ≡ Some one → one.stage ≡ Waiting → (now : Session) × (slice_get new at ≡ Some now) × (now.stage ≡ Waiting)
+waits-set old new number was later at one set_is waits there waiting =
+    elim (cases_Bool (at == number)) [
+      | inl same ↦
+          (let is : at ≡ number = same-number at number same in
+          let here : slice_get old number ≡ Some one = subst (λ (n : ℕ). slice_get old n ≡ Some one) is there in
+          let both : Some was ≡ Some one = sym set_is.there ∙ here in
+          let one_is : was ≡ one = cc in
+          (later, ap (slice_get new) is ∙ get-later old new number was later set_is, waits (ap (λ (s : Session). s.stage) one_is ∙ waiting)))
+      | inr other ↦
+          (let apart : (number == at) ≡ false = grind (arith, nat_tests, other) in
+          (one, ap (λ (xs : List Session). slice_get xs at) set_is.new_is ∙ get-set_there old number at later apart ∙ there, waiting))
+    ]
+
+pub sixteen-set : (old new : List Session) (number : ℕ) (was later : Session) → IsSet old new number was later → length old ≡ 16 → length new ≡ 16
+sixteen-set old new number was later set_is sixteen = ap (λ (xs : List Session). length xs) set_is.new_is ∙ length-set old number later ∙ sixteen
+
+-- A session of the program's world took its turn, and the world is where that leads.
+pub record Moves (mine new : World) (number : ℕ) (action : turn.Action) : Type 0 where
+  pub stands : (world : model.World) → WorldStands mine world
+      → WorldStands new (turned world number action (turn.turn world.store (world.sessions number) action)).world
+  pub sound : IsWorld new
+  pub begun : (n : ℕ) → HaveBegun n mine → HaveBegun (n + 1) new
+
+-- A session alone took its turn: the store and the queue are as they were.
+pub record Alone (mine new : World) (number : ℕ) (was later : Session) : Type 0 where
+  pub set_is : IsSet mine.sessions.items new.sessions.items number was later
+  pub store : new.store ≡ mine.store
+  pub queue : new.queue ≡ mine.queue
+  pub begun : later.begun ≤ was.begun + 1
+  pub waits : was.stage ≡ Waiting → later.stage ≡ Waiting
+
+-- an action other than a commit leaves the queue as it is
+abbrev pub LeavesQueue : turn.Action → Type 0
+LeavesQueue action = (stage : turn.Stage) (queue : List ℕ) (number : ℕ) → queue_after action stage queue number ≡ queue
+
+module _ (mine new : World) (number : ℕ) (was later : Session) (action : turn.Action) (sound : IsWorld mine) (alone : Alone mine new number was later)
+    (turns : (world : model.World) → WorldStands mine world
+    → SessionStands later number (session_after (world.sessions number) action (turn.turn world.store (world.sessions number) action)))
+    (queued : (world : model.World) → WorldStands mine world → queue_after action (world.sessions number).stage world.queue number ≡ world.queue) where
+  alone-stands : (world : model.World) → WorldStands mine world → WorldStands new (turned world number action (turn.turn world.store (world.sessions number) action)).world
+  alone-stands world is = record {
+    store = subst (λ (s : MineStore). StoreStands s world.store) (sym alone.store) is.store;
+    sessions = sessions-turned mine.sessions.items new.sessions.items number was later world.sessions
+        (session_after (world.sessions number) action (turn.turn world.store (world.sessions number) action)) alone.set_is (turns world is) is.sessions;
+    queue = queued world is ∙ is.queue ∙ ap (map (λ (request : Request). request.session)) (sym alone.queue);
+    requests = λ i request there.
+        request-turned world.store world.sessions number action request (is.requests i request (ap (λ (rs : List Request). slice_get rs i) (sym alone.queue) ∙ there));
+  }
+
+  pub Moves-alone : Moves mine new number action
+  Moves-alone = record {
+    stands = alone-stands;
+    sound = record {
+      some = ((turned sound.some.0 number action (turn.turn sound.some.0.store (sound.some.0.sessions number) action)).world, alone-stands sound.some.0 sound.some.1);
+      store = subst IsSound (sym alone.store) sound.store;
+      sixteen = sixteen-set mine.sessions.items new.sessions.items number was later alone.set_is sound.sixteen;
+      whole = subst AreWhole (sym alone.queue) sound.whole;
+      wait = λ i request there.
+          let before = sound.wait i request (ap (λ (rs : List Request). slice_get rs i) (sym alone.queue) ∙ there) in
+          waits-set mine.sessions.items new.sessions.items number was later request.session before.0 alone.set_is alone.waits before.1 before.2;
+      distinct = λ i j one other less here there.
+          sound.distinct i j one other less (ap (λ (rs : List Request). slice_get rs i) (sym alone.queue) ∙ here) (ap (λ (rs : List Request). slice_get rs j) (sym alone.queue) ∙ there);
+    };
+    begun = λ n have. begun-set mine new number was later n alone.set_is alone.begun have;
+  }
+
+-- The session was answered this line, whatever the world.
+pub TakesTurn-alone : (mine new : World) (number : ℕ) (was later : Session) (action : turn.Action) (line : answer.AnswerLine) → IsWorld mine → Alone mine new number was later
+    → ((world : model.World) → WorldStands mine world → TurnsTo world.store (world.sessions number) action number later line)
+    → ((world : model.World) → WorldStands mine world → queue_after action (world.sessions number).stage world.queue number ≡ world.queue) → TakesTurn mine new number action line
+TakesTurn-alone mine new number was later action line sound alone turns queued =
+    let moves : Moves mine new number action = Moves-alone mine new number was later action sound alone (λ world is. (turns world is).stands) queued in
+    record { line_is = λ world is. (turns world is).line_is; stands = moves.stands; sound = moves.sound; begun = moves.begun; store = alone.store }
+
+-- A session took its turn over the program's store.
+pub TakesTurn-turned : (mine new : World) (number : ℕ) (action : turn.Action) (line : answer.AnswerLine) → IsWorld mine → LeavesQueue action → new.store ≡ mine.store → new.queue ≡ mine.queue
+    → HasTurned mine.store mine.sessions.items new.sessions.items number action line → TakesTurn mine new number action line
+TakesTurn-turned mine new number action line sound leaves store_is queue_is done =
+    TakesTurn-alone mine new number done.was done.later action line sound
+    (record { set_is = done.set_is; store = store_is; queue = queue_is; begun = omega (arith, done.begun); waits = done.waits })
+    (λ world is. done.turns (world.sessions number) world.store is.store (is.sessions number done.was done.set_is.there))
+    (λ world is. leaves (world.sessions number).stage world.queue number)
+
+-- a commit that isn't queued leaves the queue as it is
+pub not-queued : (stage : Stage) (number begun : ℕ) (theirs : turn.Stage) (queue : List ℕ) → IsNotOpen stage → StageStands stage number begun theirs
+    → queue_after turn.Commit theirs queue number ≡ queue
+not-queued Free number begun theirs queue closed stands = ap (λ (s : turn.Stage). queue_after turn.Commit s queue number) stands
+not-queued (Open txn) number begun theirs queue closed stands = absurd closed
+not-queued Waiting number begun theirs queue closed stands = ap (λ (s : turn.Stage). queue_after turn.Commit s queue number) stands.1
+
+-- the number of a key's state is that of its object
+pub number-alike : (state : Option State) (object : Option Object) → BothStand state object → option_map (λ (o : Object). o.number) object ≡ option_map (λ (s : State). s.born) state
+number-alike None None stands = refl
+number-alike None (Some object) stands = absurd stands
+number-alike (Some state) None stands = absurd stands
+number-alike (Some state) (Some object) stands = ap Some (sym stands.number)
+
+-- the number of a key in the store is that of the state that the program found
+pub number-found : {X : Type 0} (now : X → State) (mine : MineStore) (store : Store) (key : List ℕ) (found : Option X) → StoreStands mine store
+    → option_map now found ≡ get mine.relation.states key → number_at store key ≡ option_map (λ (x : X). (now x).born) found
+number-found now mine store key None is found = number-alike (get mine.relation.states key) (get store.objects key) (is.objects key) ∙ ap (option_map (λ (s : State). s.born)) (sym found)
+number-found now mine store key (Some x) is found = number-alike (get mine.relation.states key) (get store.objects key) (is.objects key) ∙ ap (option_map (λ (s : State). s.born)) (sym found)

@@ -1,5 +1,0 @@
-use Rattle.blob_steps.proofs.GivingBack.{Giving}
-use Rattle.blob_steps.proofs.places.give_back_all.Given as goal
-
-abbrev pub invariant-given : goal.invariant-given
-invariant-given l = Giving l.i l.fn.blocks l.fn.space l.space

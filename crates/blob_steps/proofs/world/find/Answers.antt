@@ -1,0 +1,16 @@
+use Rattle.std.proofs.Common.{refl, sym}
+use Rattle.blob_steps.proofs.Turning.{get-at, if-ok, number-found}
+use Rattle.blob_steps.proofs.world.find.Goals as goal
+
+pub returns : goal.returns
+returns c =
+    let was = c.index_mut.result.now in
+    let there = get-at c.args.sessions.now.items c.args.session was was c.requires.session c.index_mut.ensures.value in
+    if-ok c.look.result (λ found turns. record {
+      was = was;
+      later = c.look.new.self;
+      set_is = record { there = there; new_is = refl };
+      looks = λ one theirs over is stands. turns one over theirs c.args.session (sym is.last) (number-found (λ r. r.now) c.args.store.now over c.args.key.now c.get-now.result is c.get-now.ensures) stands;
+      begun = c.look.ensures.begun;
+      waits = c.look.ensures.waits;
+    }) c.look.ensures.turn

@@ -1,0 +1,158 @@
+-- What the program's store keeps, in the words of the definitions.
+use Rattle.std.specs.Prelude.{ℕ, ◌≡◌, ◌+◌, ◌^◌, ◌<◌, ◌≤◌, min, IsTrue, List, [], ◌∷◌, length, map, take, zip, fold, slice_get, Some}
+use Rattle.std.specs.List.{All, AllZip, filter_map, flat_map, sum_by}
+use Rattle.std.specs.List.Sorted.{IsPermutation}
+use Rattle.std.specs.FinMap.{FinMap, entries, get, insert, remove}
+use Rattle.disk_model.specs.declared.disk.Disk.{Ghosts}
+use Rattle.frame_codec.specs.declared.entry.Entry.{Entry}
+use Rattle.frame_codec.specs.declared.entry.Write.{Write}
+use Rattle.frame_codec.specs.declared.entry.Write.TheVariants as write
+use Rattle.group_plan.specs.Plans.{IsEntryOf, committed, ledger_by, model_reply}
+use Rattle.group_plan.specs.declared.plan.Reply.{Reply}
+use Rattle.store_model.specs.Cost.{content_pages}
+use Rattle.store_model.specs.Disk.{Image}
+use Rattle.store_model.specs.Group.{Commit, Member, commits_of, reply_of, taken_blocks}
+use Rattle.store_model.specs.Holds.{ObjectStands, pages_from, place_of}
+use Rattle.store_model.specs.Images.{Wrote}
+use Rattle.store_model.specs.Judgement.{Ledger}
+use Rattle.store_model.specs.Key.{key_order}
+use Rattle.store_model.specs.Layout.{Layout, data_page, data_pages}
+use Rattle.store_model.specs.Placing.{new_place}
+use Rattle.store_model.specs.Space.{Block, IsOwnedPage, blocks_of}
+use Rattle.store_model.specs.Standing.{AllStand, SameObjects}
+use Rattle.store_model.specs.State.{IsState, State, Tells, greatest_number}
+use Rattle.store_model.specs.Store as model
+use Rattle.store_model.specs.Store.{Object}
+use Rattle.store_model.specs.Transaction.{apply}
+use Rattle.store_model.specs.World.{states_bytes}
+use Rattle.relation.specs.Parts.{encoded_by, owned_by}
+use Rattle.txn.specs.Requests.{transaction_of}
+use Rattle.txn.specs.Txns.{NoAppends}
+use Rattle.txn.specs.declared.change.Change.{Change}
+use Rattle.txn.specs.declared.change.Change.TheVariants as change
+use Rattle.txn.specs.declared.request.Request.{Request}
+use Rattle.blob_store.specs.declared.store.Store.{Store}
+
+-- each state keeps the rules of states
+abbrev pub AreStates : FinMap key_order State → Type 0
+AreStates states = (key : List ℕ) (state : State) → get states key ≡ Some state → IsState state
+
+-- What is owned is what the states own, among the pages of the data area; the states have room, and each keeps its rules; and
+-- the numbers go on.
+pub record IsSound (mine : Store) : Type 0 where
+  pub owned : IsPermutation mine.space.owned (owned_by mine.relation.states)
+  pub pages : mine.space.pages ≡ data_pages mine.layout
+  pub room : encoded_by mine.relation.states ≤ states_bytes mine.layout
+  pub states : AreStates mine.relation.states
+  pub last : mine.last ≤ greatest_number
+
+-- The program's store is at this store.
+pub record StoreStands (mine : Store) (store : model.Store) : Type 0 where
+  pub objects : SameObjects mine.relation.states store.objects
+  pub last : mine.last ≡ store.last
+
+-- what a group is judged by in the program's store
+abbrev pub ledger_in : Store → Ledger
+ledger_in mine = ledger_by mine.relation.states mine.last (states_bytes mine.layout) mine.space.pages
+
+-- no request of a queue appends, since none does yet
+abbrev pub AreWhole : List Request → Type 0
+AreWhole queue = All (λ request. NoAppends request.writes) queue
+
+-- the store after one committed request
+abbrev pub made_one : model.Store → Request × Commit → model.Store
+made_one store one = apply store one.1.number (entries (transaction_of one.0).changes) (map new_place one.1.placed)
+
+-- the store after committed requests, in order
+abbrev pub made_by : model.Store → List (Request × Commit) → model.Store
+made_by store commits = fold made_one store commits
+
+-- the states after one write
+abbrev pub with_write : FinMap key_order State → Write → FinMap key_order State
+with_write states (write.Set key state) = insert states key state.value
+with_write states (write.Del key) = remove states key
+
+-- the states after writes, after those of an entry, and after those of entries
+abbrev pub with_writes : FinMap key_order State → List Write → FinMap key_order State
+with_writes states writes = fold with_write states writes
+
+abbrev pub with_entry : FinMap key_order State → Entry → FinMap key_order State
+with_entry states entry = with_writes states entry.writes
+
+abbrev pub with_entries : FinMap key_order State → List Entry → FinMap key_order State
+with_entries states entries = fold with_entry states entries
+
+-- a content that is poured, with the state that has its place
+abbrev pub Pour : Type 0
+Pour = State × List ℕ
+
+-- what is poured for a change and the write that an entry has of it
+abbrev pub pours_by : Change → Write → List Pour
+pours_by (change.Put content) (write.Set key state) = (state.value, content) ∷ []
+pours_by (change.Put content) (write.Del key) = []
+pours_by (change.Append extension) one = []
+pours_by change.Del one = []
+
+-- each pour has the state of its content
+abbrev pub AreTold : List Pour → Type 0
+AreTold [] = Unit {0}
+AreTold (pour ∷ pours) = Tells pour.0 pour.1 × AreTold pours
+
+-- what is poured for an entry of a request
+abbrev pub pours_of : Request × Entry → List Pour
+pours_of one = flat_map (λ (w : (List ℕ × Change) × Write). pours_by w.0.1 w.1) (zip (entries one.0.writes) one.1.writes)
+
+-- an entry is that of a request
+abbrev pub AreWrittenBy : Request → Entry → Type 0
+AreWrittenBy request entry = (commit : Commit) × IsEntryOf (request, commit) entry
+
+-- what is poured for entries, each with its request
+abbrev pub pours_of_all : List (Request × Entry) → List Pour
+pours_of_all ones = flat_map pours_of ones
+
+-- the requests at these places of a queue
+abbrev pub requests_at : List Request → List ℕ → List Request
+requests_at queue places = filter_map (slice_get queue) places
+
+-- Each entry is that of the request at its place in the queue.
+pub record AreAt (queue : List Request) (entries : List Entry) (places : List ℕ) : Type 0 where
+  pub count : length places ≡ length entries
+  pub there : All (λ place. place < length queue) places
+  pub written : AllZip AreWrittenBy (requests_at queue places) entries
+
+-- how many bytes states take at most that entries are made in
+abbrev pub bytes_limit : ℕ
+bytes_limit = 2 ^ 61
+
+-- the states take few bytes before each of these entries
+abbrev pub HasRoom : FinMap key_order State → List Entry → Type 0
+HasRoom states entries = (i : ℕ) → i < length entries → encoded_by (with_entries states (take i entries)) ≤ bytes_limit
+
+-- the blocks that are poured to
+abbrev pub pour_blocks : List Pour → List Block
+pour_blocks pours = flat_map (λ pour. blocks_of (place_of pour.0)) pours
+
+-- how many pages a content has that is poured
+abbrev pub pour_pages : Pour → ℕ
+pour_pages pour = pages_from (length pour.1) 0
+
+-- a content stands where it was poured, with zeros behind it on its tail page
+abbrev pub Poured : Image → Layout → Pour → Type 0
+Poured image layout pour = ObjectStands image (data_page layout) (record { content = pour.1; number = pour.0.born; place = place_of pour.0 })
+
+-- What a disk has done where transactions were committed that lead from objects to others: where the objects stood, the
+-- others stand; no page has changed but those that the transactions took, now or in a crash; and each page of their contents
+-- was written once, and then the disk was synced once, where there was one.
+pub record Did {D : Type 0} (g : Ghosts D) (layout : Layout) (before after : FinMap key_order Object) (commits : List Commit) (old new : D) : Type 0 where
+  pub objects : IsTrue g.tells → AllStand (g.story old).reads layout before → AllStand (g.story new).reads layout after
+  pub wrote : IsTrue g.tells → Wrote (IsOwnedPage layout (taken_blocks commits)) (g.story old) (g.story new)
+  pub writes : IsTrue g.tells → (g.calls new).writes ≡ (g.calls old).writes + sum_by content_pages commits
+  pub syncs : IsTrue g.tells → (g.calls new).syncs ≡ (g.calls old).syncs + min 1 (length commits)
+
+-- A queue over this store was led: the members of its group had these replies, the program's store is where their committed
+-- transactions lead, and so is the disk.
+pub record Led {D : Type 0} (g : Ghosts D) (old new : D) (layout : Layout) (store : model.Store) (queue : List Request) (members : List Member) (replies : List Reply)
+    (mine : Store) : Type 0 where
+  pub replies_are : map model_reply replies ≡ map reply_of members
+  pub stands : StoreStands mine (made_by store (committed queue members))
+  pub did : Did g layout store.objects (made_by store (committed queue members)).objects (commits_of members) old new
