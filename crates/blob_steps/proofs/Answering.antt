@@ -27,13 +27,16 @@ pub turn-plays : {D : Type 0} (g : Ghosts D) (mine later new : World) (number : 
     (world : model.World) → WorldStands mine world → TakesTurn mine later number action (model_line line) → new ≡ later → shown ≡ line → asked ≡ script.Transact action
     → action_play world number (script.Transact action) ≡ Some (transact world number action) → text ≡ [] ++ answer_text (answer.Session number (model_line shown) None)
     → (x : Outcome) × (action_play world number asked ≡ Some x) × CameTo g world x text new disk disk
-turn-plays g mine later new number action asked line shown text disk world is takes new_is shown_is asked_is built text_is =
-    (transact world number action, ap (action_play world number) asked_is ∙ built, subst (λ (w : World). CameTo g world (transact world number action) text w disk disk) (sym new_is) (record {
-      stands = takes.stands world is;
-      did = Did-none g later.store.layout world.store.objects disk;
-      text_is = λ told stand. text_is ∙ ap (λ (l : AnswerLine). answer_text (answer.Session number (model_line l) None)) shown_is
-          ∙ ap (λ (l : answer.AnswerLine). answer_text (answer.Session number l None)) (takes.line_is world is);
-    }))
+turn-plays g mine later new number action asked line shown text disk world is takes new_is shown_is asked_is built text_is = (
+  transact world number action,
+  ap (action_play world number) asked_is ∙ built,
+  subst (λ (w : World). CameTo g world (transact world number action) text w disk disk) (sym new_is) (record {
+    stands = takes.stands world is;
+    did = Did-none g later.store.layout world.store.objects disk;
+    text_is = λ told stand. text_is ∙ ap (λ (l : AnswerLine). answer_text (answer.Session number (model_line l) None)) shown_is
+        ∙ ap (λ (l : answer.AnswerLine). answer_text (answer.Session number l None)) (takes.line_is world is);
+  }),
+)
 
 -- and nothing else has changed
 pub turn-stepped : {D T : Type 0} (g : Ghosts D) (mine later new : World) (number : ℕ) (action : turn.Action) (line : answer.AnswerLine) (disk : D) (value : T)

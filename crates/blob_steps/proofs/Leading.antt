@@ -143,9 +143,12 @@ module _ (mine middle new : World) (members : List Member) (n : ℕ) (done : Has
   session-was : (number : ℕ) (one : Session) → slice_get new.sessions.items number ≡ Some one
       → (was : Session) × (slice_get mine.sessions.items number ≡ Some was) × (one.begun ≡ was.begun) × (one.stage ≡ stage_left (is_of number (take n mine.queue)) was.stage)
   session-was number one is =
-      let before = done.replied.sessions number one is in
-      (before.0, ap (λ xs. slice_get xs.items number) (sym done.sessions) ∙ before.1, before.2,
-      before.3 ∙ ap (λ (rs : List Request). stage_left (is_of number (take n rs)) before.0.stage) done.queue)
+      let before = done.replied.sessions number one is in (
+        before.0,
+        ap (λ xs. slice_get xs.items number) (sym done.sessions) ∙ before.1,
+        before.2,
+        before.3 ∙ ap (λ (rs : List Request). stage_left (is_of number (take n rs)) before.0.stage) done.queue,
+      )
 
   any-of : (number : ℕ) → is_of number (take n mine.queue) ≡ list_any (λ (m : Member). number == m.asked.session) members
   any-of number = ap (λ (k : ℕ). is_of number (take k mine.queue)) done.count ∙ members-of number mine.queue members done.are

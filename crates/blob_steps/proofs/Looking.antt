@@ -83,10 +83,10 @@ module _ (mine new : World) (number : ℕ) (key : List ℕ) (found : Looked) (so
         came-look text was now (Did-reads g new.store.layout world.store.objects was now only reads)
         (λ told stand. text_is ∙ ap (λ (l : answer.AnswerLine). answer_text (answer.Session number l None))
         (answered told stand ∙ sym line_is)) where
-      answered : IsTrue g.tells → AllStand (g.story was).reads new.store.layout world.store.objects → model_line line ≡ show_of one (content_at world.store key)
-      answered told stand =
-          subst (λ (r : Result AnswerLine _). IfOk r (λ l. model_line l ≡ show_of one (content_at world.store key))) shown_is
-          (shows told world.store.objects is.store.objects (subst (λ (s : Mine). AllStand (g.story was).reads s.layout world.store.objects) store_is stand))
+          answered : IsTrue g.tells → AllStand (g.story was).reads new.store.layout world.store.objects → model_line line ≡ show_of one (content_at world.store key)
+          answered told stand =
+              subst (λ (r : Result AnswerLine _). IfOk r (λ l. model_line l ≡ show_of one (content_at world.store key))) shown_is
+              (shows told world.store.objects is.store.objects (subst (λ (s : Mine). AllStand (g.story was).reads s.layout world.store.objects) store_is stand))
 
     -- it is answered what the transaction itself puts
     pub came-own : (text : List ℕ) (was now : D) → found ≡ looked.Own → now ≡ was

@@ -102,8 +102,8 @@ request-asked store request theirs whole stands =
     ap (λ (s : turn.Stage). asked_by theirs.begun (transaction_of s).seen (entries (transaction_of s).reads) (needs_of store (transaction_of s))) stands.stage
     ∙ ap (λ (n : ℕ). asked_by n request.seen (entries request.reads) (needs_of store (requested request))) stands.begun
     ∙ ap (λ (needs : List (List ℕ × Need)). asked_by request.nth request.seen (entries request.reads) needs) (asked-stands store request whole) where
-  asked_by : ℕ → ℕ → List (List ℕ × Option ℕ) → List (List ℕ × Need) → Asked
-  asked_by nth seen reads needs = record { session = request.session; nth = nth; seen = seen; reads = reads; needs = needs }
+      asked_by : ℕ → ℕ → List (List ℕ × Option ℕ) → List (List ℕ × Need) → Asked
+      asked_by nth seen reads needs = record { session = request.session; nth = nth; seen = seen; reads = reads; needs = needs }
 
 requests-asked : (store : model.Store) (sessions : ℕ → turn.Session) (queue : List Request) → AreWhole queue → AllRequested sessions queue
     → map (λ (number : ℕ). request_of store number (sessions number)) (map (λ (r : Request). r.session) queue) ≡ map asked_of queue

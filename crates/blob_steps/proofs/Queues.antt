@@ -129,8 +129,8 @@ module _ (mine new : World) (number : ℕ) (old later : Session) (request : Requ
       let after : turn.Session = session_after (world.sessions number) turn.Commit (turn.turn world.store (world.sessions number) turn.Commit) in
       subst (RequestStands request) (sym (session-here world.sessions number after request.session (same-session request.session number asks.session)))
       (record { begun = sym asks.nth; stage = ap (λ (s : turn.Stage). (stage_turn world.store s turn.Commit).stage) asks.opened }) where
-    same-session : (n m : ℕ) → n ≡ m → (n == m) ≡ true
-    same-session n m is = subst (λ (k : ℕ). (n == k) ≡ true) is (same-self n)
+        same-session : (n m : ℕ) → n ≡ m → (n == m) ≡ true
+        same-session n m is = subst (λ (k : ℕ). (n == k) ≡ true) is (same-self n)
 
   queued-stands : (world : model.World) → WorldStands mine world → WorldStands new (turned world number turn.Commit (turn.turn world.store (world.sessions number) turn.Commit)).world
   queued-stands world is =
@@ -193,15 +193,17 @@ module _ (mine new : World) (number : ℕ) (old later : Session) (request : Requ
         begun = λ n have. begun-set mine new number old later n done.set_is (omega (arith, done.begun)) have;
         store = done.store;
       } where
-    only : (k : ℕ) (d : Request) (less : k < 1) → request ≡ slice_index_or (request ∷ []) k d
-    only zero d less = refl
-    only (suc k) d less = absurd (omega (arith, less))
-    there-now : slice_get new.sessions.items number ≡ Some later
-    there-now = get-later mine.sessions.items new.sessions.items number old later done.set_is
-    two-apart : (i j : ℕ) (one other : Request) → i < j → (slice_get mine.queue i ≡ Some one) ⊎ ((i ≡ length mine.queue) × (one ≡ request))
-        → (slice_get mine.queue j ≡ Some other) ⊎ ((j ≡ length mine.queue) × (other ≡ request)) → one.session ≢ other.session
-    two-apart i j one other less (inl here) (inl there) same = sound.distinct i j one other less here there same
-    two-apart i j one other less (inl here) (inr last) same =
-        none-queued i one here (same ∙ ap (λ (r : Request). r.session) last.1 ∙ (done.asks sound.some.0 sound.some.1).session)
-    two-apart i j one other less (inr first) (inl there) same = omega (arith, less, first.0, get-below mine.queue other j there)
-    two-apart i j one other less (inr first) (inr last) same = omega (arith, less, first.0, last.0)
+        only : (k : ℕ) (d : Request) (less : k < 1) → request ≡ slice_index_or (request ∷ []) k d
+        only zero d less = refl
+        only (suc k) d less = absurd (omega (arith, less))
+
+        there-now : slice_get new.sessions.items number ≡ Some later
+        there-now = get-later mine.sessions.items new.sessions.items number old later done.set_is
+
+        two-apart : (i j : ℕ) (one other : Request) → i < j → (slice_get mine.queue i ≡ Some one) ⊎ ((i ≡ length mine.queue) × (one ≡ request))
+            → (slice_get mine.queue j ≡ Some other) ⊎ ((j ≡ length mine.queue) × (other ≡ request)) → one.session ≢ other.session
+        two-apart i j one other less (inl here) (inl there) same = sound.distinct i j one other less here there same
+        two-apart i j one other less (inl here) (inr last) same =
+            none-queued i one here (same ∙ ap (λ (r : Request). r.session) last.1 ∙ (done.asks sound.some.0 sound.some.1).session)
+        two-apart i j one other less (inr first) (inl there) same = omega (arith, less, first.0, get-below mine.queue other j there)
+        two-apart i j one other less (inr first) (inr last) same = omega (arith, less, first.0, last.0)

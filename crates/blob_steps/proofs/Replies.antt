@@ -72,16 +72,24 @@ Replying-next mine now later n so_far left =
     let before = so_far.sessions left.request.session left.one left.was in
     let now_of : (number : ℕ) → is_of number (take (n + 1) mine.queue) ≡ (is_of number (take n mine.queue) || (number == left.request.session || false)) =
     λ number. ap (λ (rs : List Request). is_of number rs) first.1 ∙ is_of-more number (take n mine.queue) left.request in
-    let here : HasReplied mine (n + 1) left.request.session free =
-    (before.0, before.1, before.2, sym (ap (λ (b : Bool). stage_left b before.0.stage)
-    (now_of left.request.session ∙ either-true (is_of left.request.session (take n mine.queue)) (left.request.session == left.request.session) (same-self left.request.session)))) in
+    let here : HasReplied mine (n + 1) left.request.session free = (
+      before.0,
+      before.1,
+      before.2,
+      sym (ap (λ (b : Bool). stage_left b before.0.stage)
+          (now_of left.request.session ∙ either-true (is_of left.request.session (take n mine.queue)) (left.request.session == left.request.session) (same-self left.request.session))),
+    ) in
     record {
       queue = first.0;
       sessions = IsSet-each now.sessions.items later.sessions.items left.request.session left.one free (HasReplied mine (n + 1)) set_is here
           (λ number one other is.
-          let was = so_far.sessions number one is in
-          (was.0, was.1, was.2, was.3 ∙ sym (ap (λ (b : Bool). stage_left b was.0.stage)
-          (now_of number ∙ either-false (is_of number (take n mine.queue)) (number == left.request.session) other))));
+          let was = so_far.sessions number one is in (
+            was.0,
+            was.1,
+            was.2,
+            was.3 ∙ sym (ap (λ (b : Bool). stage_left b was.0.stage)
+                (now_of number ∙ either-false (is_of number (take n mine.queue)) (number == left.request.session) other)),
+          ));
       sixteen = sixteen-set now.sessions.items later.sessions.items left.request.session left.one free set_is so_far.sixteen;
       store = left.store ∙ so_far.store;
     }

@@ -34,12 +34,13 @@ stat-own printed print stage transaction content key is told opened put =
     ap (λ (n : ℕ). answer.Stat n print.digest.bytes) size ∙ ap (λ (d : List ℕ). answer.Stat (length content) d) digest
     ∙ ap (λ (o : Option model.Change). show_of look.Stat (Some (own_bytes o))) (sym put)
     ∙ ap (λ (s : turn.Stage). show_of look.Stat (Some (own_bytes (get (transaction_of s).changes key)))) (sym opened) where
-  first_or : Option (ℕ × List ℕ) → ℕ
-  first_or None = 0
-  first_or (Some p) = p.0
-  second_or : Option (ℕ × List ℕ) → List ℕ
-  second_or None = []
-  second_or (Some p) = p.1
+      first_or : Option (ℕ × List ℕ) → ℕ
+      first_or None = 0
+      first_or (Some p) = p.0
+
+      second_or : Option (ℕ × List ℕ) → List ℕ
+      second_or None = []
+      second_or (Some p) = p.1
 
 -- they are printed
 pub none-printed : (printed : Option Print) (transaction : Transaction) (content key : List ℕ) → printed ≡ None

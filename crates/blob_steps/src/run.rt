@@ -18,11 +18,11 @@ ghost use Rattle.blob_steps.specs.Runs.{Closed, Ended, EndedBy, IsRaised, IsTooS
 ghost use Rattle.blob_steps.specs.Going.{EndsPrinting, EndsReading, EndsStep, Going, IsAccepted, IsRunning, reading_ending, step_ending};
 ghost use Rattle.blob_steps.specs.Nexts.{HasSession, IsLine, IsNext, IsUnbuilt, TellsLine, next_line};
 
-use blob_store::StoreFault;
 use crate::line::{Found, LineFault, LineReader};
 use crate::world::{Played, World};
 use blob_base::{Bytes, IoFault, OutOfMemory, StoreRefusal, Word};
 use blob_script::{Form, Status, Step, StepFault};
+use blob_store::StoreFault;
 use disk_model::{Disk, Layout};
 use io_ends::{Sink, Source, put_all};
 use std::alloc::Global;

@@ -132,7 +132,12 @@ impl Session {
     }
 
     /// Puts a content under a key.
-    pub(crate) fn put(&mut self, alloc: Global, key: &Key, content: &Content) -> Result<AnswerLine, OutOfMemory>
+    pub(crate) fn put(
+        &mut self,
+        alloc: Global,
+        key: &Key,
+        content: &Content,
+    ) -> Result<AnswerLine, OutOfMemory>
         ensures turn { IfOk result (λ line. (store : Store) (theirs : ModelSession) (number : ℕ) → SessionStands self.old number theirs
             → TurnsTo store theirs (turn.Put key.now (content_bytes content.now)) number self.new (model_line line)) }
         ensures begun { self.new.begun ≡ self.old.begun }
@@ -146,7 +151,12 @@ impl Session {
     }
 
     /// Deletes a key, which has this state in the store; `front` is the number of the store's last entry.
-    pub(crate) fn del(&mut self, key: &Key, now: Option<&BlobState>, front: u64) -> Result<AnswerLine, OutOfMemory>
+    pub(crate) fn del(
+        &mut self,
+        key: &Key,
+        now: Option<&BlobState>,
+        front: u64,
+    ) -> Result<AnswerLine, OutOfMemory>
         ensures turn { IfOk result (λ line. (store : Store) (theirs : ModelSession) (number : ℕ) → store.last ≡ front
             → number_at store key.now ≡ option_map (λ state. state.now.born) now.entry → SessionStands self.old number theirs
             → TurnsTo store theirs (turn.Delete key.now) number self.new (model_line line)) }
@@ -230,7 +240,12 @@ impl Session {
 }
 
 // Puts a content under a key in an open transaction.
-fn put(alloc: Global, txn: &mut Txn, key: &Key, content: &Content) -> Result<AnswerLine, OutOfMemory>
+fn put(
+    alloc: Global,
+    txn: &mut Txn,
+    key: &Key,
+    content: &Content,
+) -> Result<AnswerLine, OutOfMemory>
     ensures turn { IfOk result (λ line. put_turn (transaction_by txn.old) key.now (content_bytes content.now)
         ≡ record { line = model_line line; stage = turn.Open (transaction_by txn.new) }) }
     ensures session { txn.new.session ≡ txn.old.session }

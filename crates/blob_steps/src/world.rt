@@ -21,12 +21,10 @@ ghost use Rattle.blob_steps.specs.declared.session.Looked.TheVariants as Looked;
 ghost use Rattle.blob_steps.specs.Sessions.{HasLooked, HasTurned, IsPut, look_action};
 ghost use Rattle.blob_steps.specs.Steps.{AreNew, CameTo, DoesPlay, HaveBegun, IsWorld, LeavesFirst, Replying, Stepped, TakesTurn, WorldStands, first_reply_text, replies_text};
 
-use blob_store::StoreFault;
-use blob_store::Look;
 use crate::session::{Looked, Session, Stage};
-use blob_store::Store;
 use blob_base::{Bytes, Key, OutOfMemory};
 use blob_script::{Action, Answer, AnswerLine, Content, Step};
+use blob_store::{Look, Store, StoreFault};
 use disk_model::{Disk, Layout};
 use group_plan::{Queue, Replies, Reply};
 use std::alloc::Global;
@@ -342,7 +340,12 @@ impl World {
     }
 
     // A lead, whose answers are added to the text.
-    fn lead<D: Disk>(&mut self, alloc: Global, disk: &mut D, text: &mut Bytes) -> Result<(), StoreFault>
+    fn lead<D: Disk>(
+        &mut self,
+        alloc: Global,
+        disk: &mut D,
+        text: &mut Bytes,
+    ) -> Result<(), StoreFault>
         requires sound { IsWorld self.old }
         requires none { text.old ≡ [] }
         requires disk { total_pages self.old.store.layout ≤ D.size disk.old }
@@ -360,7 +363,12 @@ impl World {
     }
 
     // Answers the members at the front of the queue, which leave it.
-    fn reply_all(&mut self, alloc: Global, replies: &Replies, text: &mut Bytes) -> Result<(), OutOfMemory>
+    fn reply_all(
+        &mut self,
+        alloc: Global,
+        replies: &Replies,
+        text: &mut Bytes,
+    ) -> Result<(), OutOfMemory>
         requires sixteen { length self.old.sessions.items ≡ 16 }
         requires few { length replies.now ≤ length self.old.queue }
         requires none { text.old ≡ [] }

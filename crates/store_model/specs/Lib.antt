@@ -12,6 +12,7 @@ pub mod Script
 pub mod Play
 pub mod Cost
 pub mod Layout
+pub mod Log
 pub mod Disk
 pub mod Images
 pub mod Form

@@ -28,6 +28,8 @@ mod keys;
 #[cfg(test)]
 mod lists;
 #[cfg(test)]
+mod logs;
+#[cfg(test)]
 mod relations;
 #[cfg(test)]
 mod script_lines;

@@ -1,0 +1,9 @@
+//! The log area of a half: its gates, and the bodies behind them.
+#![tactic(auto)]
+
+mod fault;
+mod log;
+mod pages;
+
+pub use fault::LayFault;
+pub use log::Log;
