@@ -1,17 +1,9 @@
 -- A status as the ending that the definitions speak of.
 use Rattle.std.specs.Prelude.{Option, Some, None}
-use Rattle.blob_base.specs.declared.faults.StoreRefusal.{StoreRefusal}
-use Rattle.blob_base.specs.declared.faults.StoreRefusal.TheVariants as refusal
+use Rattle.blob_base.specs.Refusals.{refusal_of}
 use Rattle.blob_script.specs.declared.status.Status.{Status}
 use Rattle.blob_script.specs.declared.status.Status.TheVariants as status
 use Rattle.store_model.specs.Closing as model
-
-abbrev pub refusal_of : StoreRefusal → model.Refusal
-refusal_of (refusal.TooSmall need have) = model.TooSmall need have
-refusal_of (refusal.BadHalf half at) = model.BadHalf half at
-refusal_of (refusal.BadTuple half at) = model.BadTuple half at
-refusal_of (refusal.BadFrame half page) = model.BadFrame half page
-refusal_of (refusal.OwnedTwice page) = model.OwnedTwice page
 
 -- none for a run that ended well
 abbrev pub ending_of : Status → Option model.Ending

@@ -3,7 +3,6 @@ use Rattle.std.specs.Prelude.{ℕ, nat_le, nat_lt}
 use Rattle.std.specs.Int.{w8, w32, w64}
 use Rattle.store_model.specs.Field.{Bytes, Field, KeyText, Number}
 use Rattle.store_model.specs.Shape.{greatest_size}
-use Rattle.store_model.specs.State.{greatest_number}
 use Rattle.store_model.specs.TupleFields.{any_bytes, is_filled, is_head, is_within}
 
 -- the key's length, and the key
@@ -13,12 +12,12 @@ length_field = record { at = 0; bytes = 1; rule = Number w8 (is_within 3 64) }
 abbrev pub key_field : ℕ → Field
 key_field length = record { at = 1; bytes = length; rule = KeyText }
 
--- the size, and the number of the entry
+-- the size, and the number of the entry from least to most
 abbrev pub size_field : ℕ → Field
 size_field at = record { at = at; bytes = 4; rule = Number w32 (λ n. nat_le n greatest_size) }
 
-abbrev pub born_field : ℕ → Field
-born_field at = record { at = at; bytes = 8; rule = Number w64 (is_within 1 greatest_number) }
+abbrev pub born_field : ℕ → ℕ → ℕ → Field
+born_field least most at = record { at = at; bytes = 8; rule = Number w64 (is_within least most) }
 
 -- 32 bytes, whatever they are
 abbrev pub any_field : ℕ → Field

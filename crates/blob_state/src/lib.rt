@@ -1,7 +1,9 @@
 //! States of objects: what is kept of a content, and the stored form of a key with its object's state.
 #![tactic(auto)]
 
+mod content;
 mod draft;
+mod places;
 mod reader;
 mod state;
 mod stored;
@@ -9,7 +11,7 @@ mod tuple;
 mod values;
 
 pub use draft::Draft;
-pub use reader::{BadTuple, Tuple, decode};
+pub use reader::{BadTuple, StoredState, Tuple, decode, decode_key, decode_state};
 pub use state::{BlobState, MAX_NUMBER};
 pub use stored::{MAX_TUPLE_BYTES, stored_bytes};
 pub use tuple::{encode, encode_into};

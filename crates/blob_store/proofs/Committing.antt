@@ -16,7 +16,8 @@ use Rattle.store_model.specs.Space.{Block}
 use Rattle.store_model.specs.State.{State}
 use Rattle.txn.specs.Requests.{asked_of}
 use Rattle.txn.specs.declared.request.Request.{Request}
-use Rattle.blob_store.specs.Stores.{AreStates, AreWhole, HasRoom, bytes_limit, with_entries, with_entry}
+use Rattle.blob_store.specs.Stores.{AreStates, AreWhole, HasRoom}
+use Rattle.relation.specs.Changes.{bytes_limit, with_entries, with_entry}
 use Rattle.blob_store.proofs.Following.{AllFollow, AllFollow-members, Came, Came-next, ready-next}
 use Rattle.blob_store.proofs.Freeing.{move-writes, moves-both}
 use Rattle.blob_store.proofs.Members.{members-long}

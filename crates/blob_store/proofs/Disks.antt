@@ -26,7 +26,8 @@ use Rattle.store_model.specs.Store as model
 use Rattle.store_model.specs.Store.{Object}
 use Rattle.store_model.proofs.ImageLaws.{wrote_none}
 use Rattle.txn.specs.declared.request.Request.{Request}
-use Rattle.blob_store.specs.Stores.{AreWhole, Did, Pour, Poured, StoreStands, made_by, pour_blocks, pour_pages, pours_of_all, requests_at, with_entries}
+use Rattle.blob_store.specs.Stores.{AreWhole, Did, Pour, Poured, StoreStands, made_by, pour_blocks, pour_pages, pours_of_all, requests_at}
+use Rattle.relation.specs.Changes.{with_entries}
 use Rattle.blob_store.specs.declared.store.Store.{Store}
 use Rattle.blob_store.proofs.Leading.{lead-blocks, lead-count, lead-pages, requests-are}
 use Rattle.blob_store.proofs.Makings.{AreNumbered, AreNumbered-members, made-last, same-made}

@@ -17,7 +17,8 @@ use Rattle.txn.specs.Requests.{asked_of, need_of}
 use Rattle.txn.specs.Txns.{NoAppends}
 use Rattle.txn.specs.declared.change.Change.{Change}
 use Rattle.txn.specs.declared.request.Request.{Request}
-use Rattle.blob_store.specs.Stores.{AreStates, AreWhole, with_entry}
+use Rattle.blob_store.specs.Stores.{AreStates, AreWhole}
+use Rattle.relation.specs.Changes.{with_entry}
 use Rattle.blob_store.proofs.Growing.{grow-most}
 use Rattle.blob_store.proofs.Keeping.{AreStates-writes}
 use Rattle.blob_store.proofs.Placings.{IsPlaced, all-placed}

@@ -21,7 +21,8 @@ use Rattle.txn.specs.Requests.{need_of}
 use Rattle.txn.specs.Txns.{is_append}
 use Rattle.txn.specs.declared.change.Change.{Change}
 use Rattle.txn.specs.declared.change.Change.TheVariants as change
-use Rattle.blob_store.specs.Stores.{pour_blocks, pours_by, with_write, with_writes}
+use Rattle.blob_store.specs.Stores.{pour_blocks, pours_by}
+use Rattle.relation.specs.Changes.{with_write, with_writes}
 use Rattle.blob_store.proofs.Placings.{placed-blocks}
 use Rattle.blob_store.proofs.Writings.{AreReady, AreReady-next}
 

@@ -21,7 +21,7 @@ use Rattle.store_model.proofs.StoredLaws.{length-stored}
 use Rattle.txn.specs.Txns.{is_append}
 use Rattle.txn.specs.declared.change.Change.{Change}
 use Rattle.txn.specs.declared.change.Change.TheVariants as change
-use Rattle.blob_store.specs.Stores.{with_write, with_writes}
+use Rattle.relation.specs.Changes.{with_write, with_writes}
 use Rattle.blob_store.proofs.Keeping.{AreStates-at}
 use Rattle.blob_store.proofs.Writings.{AreReady, AreReady-next}
 

@@ -13,7 +13,8 @@ use Rattle.store_model.specs.State.{IsState, State}
 use Rattle.store_model.specs.Store.{Placement}
 use Rattle.store_model.proofs.SortedLaws.{keys_total}
 use Rattle.txn.specs.declared.change.Change.{Change}
-use Rattle.blob_store.specs.Stores.{AreStates, with_write, with_writes}
+use Rattle.blob_store.specs.Stores.{AreStates}
+use Rattle.relation.specs.Changes.{with_write, with_writes}
 
 -- where there are no states, each keeps its rules
 pub AreStates-none : (states : FinMap key_order State) → states ≡ empty → AreStates states

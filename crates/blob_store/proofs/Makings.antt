@@ -27,7 +27,8 @@ use Rattle.txn.specs.Txns.{NoAppends, is_append}
 use Rattle.txn.specs.declared.change.Change.{Change}
 use Rattle.txn.specs.declared.change.Change.TheVariants as change
 use Rattle.txn.specs.declared.request.Request.{Request}
-use Rattle.blob_store.specs.Stores.{made_by, made_one, with_entries, with_entry, with_write, with_writes}
+use Rattle.blob_store.specs.Stores.{made_by, made_one}
+use Rattle.relation.specs.Changes.{with_entries, with_entry, with_write, with_writes}
 use Rattle.blob_store.proofs.Objects.{SameObjects-set}
 use Rattle.blob_store.proofs.Placings.{IsPlaced}
 use Rattle.blob_store.proofs.Walks.{ArePlaced}

@@ -12,7 +12,8 @@ use Rattle.store_model.specs.Layout.{Layout, data_pages}
 use Rattle.store_model.specs.Space.{Block}
 use Rattle.store_model.specs.State.{State, greatest_number}
 use Rattle.store_model.specs.World.{states_bytes}
-use Rattle.blob_store.specs.Stores.{AreStates, IsSound, with_entries}
+use Rattle.blob_store.specs.Stores.{AreStates, IsSound}
+use Rattle.relation.specs.Changes.{with_entries}
 use Rattle.blob_store.specs.declared.store.Store.{Store}
 use Rattle.blob_store.proofs.Committing.{AreMade, room-after}
 

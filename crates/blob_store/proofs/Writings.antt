@@ -19,7 +19,8 @@ use Rattle.store_model.proofs.SortedLaws.{greater-less, keys_exact, keys_total, 
 use Rattle.txn.specs.Requests.{need_of}
 use Rattle.txn.specs.Txns.{is_append}
 use Rattle.txn.specs.declared.change.Change.{Change}
-use Rattle.blob_store.specs.Stores.{AreStates, with_write, with_writes}
+use Rattle.blob_store.specs.Stores.{AreStates}
+use Rattle.relation.specs.Changes.{with_write, with_writes}
 use Rattle.blob_store.proofs.Placings.{IsPlaced}
 use Rattle.std.proofs.lemmas.Slice.Eq.{bytes_eq-Decides}
 

@@ -25,6 +25,7 @@ use Rattle.store_model.specs.Store as model
 use Rattle.store_model.specs.Store.{Object}
 use Rattle.store_model.specs.Transaction.{apply}
 use Rattle.store_model.specs.World.{states_bytes}
+use Rattle.relation.specs.Changes.{bytes_limit, with_entries}
 use Rattle.relation.specs.Parts.{encoded_by, owned_by}
 use Rattle.txn.specs.Requests.{transaction_of}
 use Rattle.txn.specs.Txns.{NoAppends}
@@ -67,21 +68,6 @@ made_one store one = apply store one.1.number (entries (transaction_of one.0).ch
 abbrev pub made_by : model.Store → List (Request × Commit) → model.Store
 made_by store commits = fold made_one store commits
 
--- the states after one write
-abbrev pub with_write : FinMap key_order State → Write → FinMap key_order State
-with_write states (write.Set key state) = insert states key state.value
-with_write states (write.Del key) = remove states key
-
--- the states after writes, after those of an entry, and after those of entries
-abbrev pub with_writes : FinMap key_order State → List Write → FinMap key_order State
-with_writes states writes = fold with_write states writes
-
-abbrev pub with_entry : FinMap key_order State → Entry → FinMap key_order State
-with_entry states entry = with_writes states entry.writes
-
-abbrev pub with_entries : FinMap key_order State → List Entry → FinMap key_order State
-with_entries states entries = fold with_entry states entries
-
 -- a content that is poured, with the state that has its place
 abbrev pub Pour : Type 0
 Pour = State × List ℕ
@@ -119,10 +105,6 @@ pub record AreAt (queue : List Request) (entries : List Entry) (places : List �
   pub count : length places ≡ length entries
   pub there : All (λ place. place < length queue) places
   pub written : AllZip AreWrittenBy (requests_at queue places) entries
-
--- how many bytes states take at most that entries are made in
-abbrev pub bytes_limit : ℕ
-bytes_limit = 2 ^ 61
 
 -- the states take few bytes before each of these entries
 abbrev pub HasRoom : FinMap key_order State → List Entry → Type 0

@@ -9,7 +9,7 @@ ghost use Rattle.blob_base.specs.declared.faults.IoFault.TheVariants.{Failed};
 ghost use Rattle.blob_script.specs.Answers.{model_line};
 ghost use Rattle.disk_model.specs.Disks.{Keeps, OnlyReads, OnlyWrites};
 ghost use Rattle.group_plan.specs.Plans.{members_of};
-ghost use Rattle.relation.specs.Parts.{bytes_bound, encoded_by};
+ghost use Rattle.relation.specs.Parts.{encoded_by};
 ghost use Rattle.store_model.specs.Answer.{Value};
 ghost use Rattle.store_model.specs.Cost.{Reads};
 ghost use Rattle.store_model.specs.Disk.{Took};
@@ -25,7 +25,8 @@ ghost use Rattle.store_model.specs.Verify.{LeadsTo, Verifies};
 ghost use Rattle.store_model.specs.World.{states_bytes};
 ghost use Rattle.blob_store.specs.Faults.{DamageOf, FailsOn, IsRaisedFault, IsUndamagedFault, NamesKey, ShowsDamageFault};
 ghost use Rattle.blob_store.specs.Looks.{ShownOf, show_of};
-ghost use Rattle.blob_store.specs.Stores.{AreAt, AreTold, AreWhole, AreWrittenBy, HasRoom, IsSound, Led, Poured, StoreStands, bytes_limit, ledger_in, pour_blocks, pour_pages, pours_by, pours_of, pours_of_all, requests_at, with_entries, with_write, with_writes};
+ghost use Rattle.blob_store.specs.Stores.{AreAt, AreTold, AreWhole, AreWrittenBy, HasRoom, IsSound, Led, Poured, StoreStands, ledger_in, pour_blocks, pour_pages, pours_by, pours_of, pours_of_all, requests_at};
+ghost use Rattle.relation.specs.Changes.{bytes_limit, with_entries};
 
 use crate::fault::StoreFault;
 use crate::look::Look;
@@ -37,7 +38,7 @@ use extent_alloc::{BuildFault, Space};
 use extent_io::{Verdict, check, gather, pour};
 use frame_codec::{Entries, Entry, MAX_WRITES, Write, Writes};
 use group_plan::{Plan, Queue, Replies, plan_group};
-use relation::Relation;
+use relation::{Relation, apply};
 use std::alloc::Global;
 use txn::{Change, Request};
 
@@ -48,15 +49,6 @@ pub struct Store {
     pub relation: Relation,
     pub space: Space,
     pub last: u64,
-}
-
-// How many bytes a layout has for the states.
-fn states_room(layout: Layout) -> u64
-    ensures value { result ≡ states_bytes layout }
-    ensures few { result ≤ bytes_limit }
-{
-    layout.rules();
-    u64::from(layout.room) * PAGE_BYTES as u64
 }
 
 impl Store {
@@ -151,7 +143,7 @@ impl Store {
             queue,
             &self.relation,
             &mut self.space,
-            states_room(self.layout),
+            self.layout.states_bytes(),
             self.last,
         )?;
         let Plan {
@@ -287,39 +279,6 @@ fn pour_all<D: Disk>(
     Ok(())
 }
 
-// Makes a write. A state goes from its box straight to its place.
-fn make_write(relation: &mut Relation, write: Write)
-    requires spare { 1 ≤ relation.old.spare }
-    requires bytes { encoded_by relation.old.states + greatest_tuple < bytes_bound }
-    ensures states { relation.new.states ≡ with_write relation.old.states write }
-    ensures spare { relation.old.spare ≤ relation.new.spare + 1 }
-    ensures bytes { encoded_by relation.new.states ≤ encoded_by relation.old.states + greatest_tuple }
-{
-    match write {
-        Write::Set { key, state } => {
-            // It is known to take few bytes where they are counted.
-            let _bytes = state.encoded(&key);
-            relation.set(key, Box::into_inner(state));
-        }
-        Write::Del { key } => {
-            relation.remove(&key);
-        }
-    }
-}
-
-// Makes the writes of an entry.
-fn make_entry(relation: &mut Relation, writes: Writes)
-    requires spare { MAX_WRITES ≤ relation.old.spare }
-    requires bytes { encoded_by relation.old.states ≤ bytes_limit }
-    ensures states { relation.new.states ≡ with_writes relation.old.states writes }
-    ensures spare { relation.old.spare ≤ relation.new.spare + MAX_WRITES }
-{
-    let mut left = Listed::from_vec(writes.into_vec());
-    'made: while !left.is_empty() {
-        make_write(relation, left.remove_first());
-    }
-}
-
 // Makes the writes of entries, in their order.
 fn make_all(relation: &mut Relation, mut entries: Entries)
     requires spare { length entries * MAX_WRITES ≤ relation.old.spare }
@@ -328,7 +287,7 @@ fn make_all(relation: &mut Relation, mut entries: Entries)
 {
     'made: while !entries.is_empty() {
         let entry = entries.remove_first();
-        make_entry(relation, entry.writes);
+        apply(relation, entry.writes);
     }
 }
 

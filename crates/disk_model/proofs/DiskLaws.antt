@@ -1,5 +1,5 @@
 -- Laws of what calls on a disk keep.
-use Rattle.std.proofs.Common.{ℕ, IsTrue, Result, refl, ◌∙◌}
+use Rattle.std.proofs.Common.{ℕ, Result, refl, ◌∙◌}
 use Rattle.blob_base.specs.declared.faults.IoFault.{IoFault}
 use Rattle.blob_base.proofs.FaultLaws.{HasCause-since, KeepsEnd-none, KeepsEnd-then}
 use Rattle.disk_model.specs.Disks.{Caused, Keeps, OnlyReads, OnlyWrites}

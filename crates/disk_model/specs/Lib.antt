@@ -3,7 +3,9 @@ pub mod Stories
 pub mod Memory
 pub mod Frame
 pub mod Disks
+pub mod Readings
 pub use Rattle.blob_base.specs.Faults
 pub use Rattle.store_model.specs.Disk
 pub use Rattle.store_model.specs.Layout
+pub use Rattle.store_model.specs.Log
 pub use Rattle.store_model.specs.Images

@@ -1,6 +1,7 @@
 // Which pages of a disk are what.
 
 ghost use Rattle.std.specs.Prelude.{◌≡◌, ◌%◌, ◌^◌, ◌<◌, ◌≤◌};
+ghost use Rattle.store_model.specs.World.{states_bytes};
 ghost use Rattle.store_model.specs.Layout.{IsLayout, header_page, log_page, states_page, data_page, data_pages, total_pages};
 
 use std::marker::Model;
@@ -63,6 +64,14 @@ impl Layout {
         ensures { result ≡ states_page self.now half }
     {
         1027 + self.room * half
+    }
+
+    /// How many bytes a half has for its states.
+    pub fn states_bytes(&self) -> u64
+        ensures value { result ≡ states_bytes self.now }
+        ensures most { result ≤ 2 ^ 22 }
+    {
+        4096 * u64::from(self.room)
     }
 
     /// How many pages the data area has: a multiple of 1024, at most 2^24.

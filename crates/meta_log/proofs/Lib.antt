@@ -1,2 +1,4 @@
 pub mod Writings
 pub mod Logs
+pub mod Readings
+pub mod Walks

@@ -1,16 +1,12 @@
 -- Steps of writing a body page by page.
-use Rattle.std.proofs.Common.{◌≡◌, ℕ, ◌+◌, ◌*◌, ◌<◌, min, List, ◌++◌, length, take, drop, replicate, Bool, sym, ap, ◌∙◌, arith, inl, inr}
+use Rattle.std.proofs.Common.{◌≡◌, ℕ, ◌+◌, ◌*◌, ◌<◌, min, List, length, take, drop, Bool, sym, ap, ◌∙◌, arith, inl, inr}
 use Rattle.std.specs.Prelude.{IsTrue}
 use Rattle.std.proofs.lemmas.Bool.{cases_lt}
-use Rattle.std.proofs.lemmas.List.{drop-replicate, drop_min, take_min}
+use Rattle.std.proofs.lemmas.List.{drop_min, take_min}
 use Rattle.store_model.specs.Disk.{Calls, Image, Took, page_bytes, page_of, with_page, with_write}
 use Rattle.store_model.specs.Images.{Story, Within, Wrote}
 use Rattle.store_model.specs.Log.{body_page}
 use Rattle.store_model.proofs.ImageLaws.{with_page_at, with_page_off, wrote_more, wrote_none}
-
--- a page of zeros with bytes at its front
-pub page-filled : (bytes front : List ℕ) → front ≡ bytes → front ++ drop (length bytes) (replicate page_bytes 0) ≡ page_of bytes
-page-filled bytes front same = ap (λ (xs : List ℕ). xs ++ drop (length bytes) (replicate page_bytes 0)) same ∙ ap (λ (zeros : List ℕ). bytes ++ zeros) (drop-replicate (length bytes) page_bytes 0)
 
 -- the bytes of a page of a body
 pub page-is : (number start count : ℕ) (body rest piece : List ℕ) → start ≡ min (page_bytes * number) (length body) → rest ≡ drop start body

@@ -4,6 +4,8 @@
 mod fault;
 mod log;
 mod pages;
+mod read;
 
 pub use fault::LayFault;
 pub use log::Log;
+pub use read::{Bodies, Body, BodyList, ReadFault};

@@ -9,9 +9,9 @@ ghost use Rattle.meta_log.specs.LayFaults.{LayCameFrom};
 ghost use Rattle.meta_log.specs.declared.fault.LayFault.TheVariants.{LogFull};
 
 use crate::LayFault;
-use crate::pages::{filled, pages_of, write_pages};
+use crate::pages::{pages_of, write_pages};
 use blob_base::IoFault;
-use disk_model::{Disk, Layout};
+use disk_model::{Disk, Layout, filled};
 use std::marker::Model;
 
 /// The log of a half, at its closed gate. A body is laid behind the gate, with the next gate, closed, behind it, and

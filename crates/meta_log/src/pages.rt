@@ -7,24 +7,14 @@ ghost use Rattle.store_model.specs.Images.{Within};
 ghost use Rattle.store_model.specs.Log.{body_page, body_pages};
 
 use blob_base::{IoFault, PAGE_BYTES};
-use disk_model::{Disk, Page};
+use disk_model::{Disk, Page, filled, pages_for};
 
 /// The least number of pages that hold a body.
 pub(crate) fn pages_of(body: &[u8]) -> u32
     requires { length body.now < 2 ^ 32 }
     ensures { result ≡ body_pages (length body.now) }
 {
-    ((body.len() as u64 + 4095) / PAGE_BYTES as u64) as u32
-}
-
-/// The page that begins with these bytes, and has zeros behind them.
-pub(crate) fn filled(bytes: &[u8]) -> Page
-    requires { length bytes.now ≤ page_bytes }
-    ensures { result ≡ page_of bytes.now }
-{
-    let mut page = [0; PAGE_BYTES];
-    page[..bytes.len()].copy_from_slice(bytes);
-    page
+    pages_for(body.len())
 }
 
 // Page `number` of a body, which has zeros behind the body's last byte.

@@ -3,3 +3,4 @@ pub mod Copies
 pub mod Encoded
 pub mod Relations
 pub mod Searches
+pub mod Changings

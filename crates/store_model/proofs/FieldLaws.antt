@@ -23,6 +23,10 @@ pub record TextStands (stored : List ℕ) (at : ℕ) (text : List ℕ) : Type 0 
 abbrev pub told_eight : List ℕ → ℕ → ℕ
 told_eight stored at = from_be_bytes w64 (take 8 (drop at stored))
 
+-- the same text at the same offset
+pub TextStands-at : (stored : List ℕ) (p q : ℕ) (text : List ℕ) → p ≡ q → TextStands stored p text → TextStands stored q text
+TextStands-at stored p q text same stands = rw same at stands
+
 -- a text at the front
 pub TextStands-start : (stored text rest : List ℕ) → stored ≡ text ++ rest → TextStands stored 0 text
 TextStands-start stored text rest is =
@@ -156,6 +160,12 @@ pub IsBroken-four : (stored : List ℕ) (at n : ℕ) (test : ℕ → Bool) → a
 IsBroken-four stored at n test whole told fails =
     inr (record { whole = whole; broken = rw told at fails; place = 0; named = refl; at_is = omega arith })
 
+pub IsBroken-bytes : (stored : List ℕ) (at n : ℕ) (text : List ℕ) (test : List ℕ → Bool) → length text ≡ n → test text ≡ false → TextStands stored at text
+    → IsBroken stored (record { at = at; bytes = n; rule = Bytes test }) at
+IsBroken-bytes stored at n text test long fails stands =
+    let same : take n (drop at stored) ≡ text = ap (λ (m : ℕ). take m (drop at stored)) (sym long) ∙ stands.bytes in
+    inr (record { whole = omega (arith, stands.whole); broken = ap test same ∙ fails; place = 0; named = refl; at_is = omega arith })
+
 pub IsBroken-key : (stored : List ℕ) (at n place : ℕ) (text : List ℕ) → at + n ≤ length stored → text ≡ take n (drop at stored)
     → IsBadAt text place → IsBroken stored (record { at = at; bytes = n; rule = KeyText }) (at + place)
 IsBroken-key stored at n place text whole told bad =
@@ -180,7 +190,7 @@ pub AreGood-same : (stored : List ℕ) (a b : List Field) → a ≡ b → AreGoo
 AreGood-same stored a b same good = rw same at good
 
 -- no field is good and broken
-IsGood-not_broken : (stored : List ℕ) (field : Field) (at : ℕ) → IsGood stored field → IsBroken stored field at → ⊥
+pub IsGood-not_broken : (stored : List ℕ) (field : Field) (at : ℕ) → IsGood stored field → IsBroken stored field at → ⊥
 IsGood-not_broken stored field at good (inl short) = omega (arith, good.whole, short.short)
 IsGood-not_broken stored field at good (inr breaks) = both_ways _ breaks.broken good.kept
 

@@ -19,7 +19,7 @@ is-equal Less same = absurd (cc same)
 is-equal Equal same = refl
 is-equal Greater same = absurd (cc same)
 
-tied : (q k : List ℕ) → eq_by_cmp key_order q k ≡ true → q ≡ k
+pub tied : (q k : List ℕ) → eq_by_cmp key_order q k ≡ true → q ≡ k
 tied q k same = keys_exact q k (is-equal (key_order q k) same)
 
 module _ {V : Type 0} where

@@ -21,11 +21,11 @@ split-same a b x y len both = (
 )
 
 -- numbers of four bytes and of eight
-four-same : (m n : ℕ) → m < 2 ^ 32 → n < 2 ^ 32 → to_be_bytes w32 m ≡ to_be_bytes w32 n → m ≡ n
+pub four-same : (m n : ℕ) → m < 2 ^ 32 → n < 2 ^ 32 → to_be_bytes w32 m ≡ to_be_bytes w32 n → m ≡ n
 four-same m n low less same =
     sym (from_be_bytes-to_be_bytes_4 m low) ∙ ap (from_be_bytes w32) same ∙ from_be_bytes-to_be_bytes_4 n less
 
-eight-same : (m n : ℕ) → m < 2 ^ 64 → n < 2 ^ 64 → to_be_bytes w64 m ≡ to_be_bytes w64 n → m ≡ n
+pub eight-same : (m n : ℕ) → m < 2 ^ 64 → n < 2 ^ 64 → to_be_bytes w64 m ≡ to_be_bytes w64 n → m ≡ n
 eight-same m n low less same =
     sym (from_be_bytes-to_be_bytes_8 m low) ∙ ap (from_be_bytes w64) same ∙ from_be_bytes-to_be_bytes_8 n less
 
@@ -98,7 +98,7 @@ count-same size m n one other =
     omega (arith, extents-HasShape size n _ one other.held, extents-HasShape size m _ other one.held)
 
 -- keys
-key-same : (k l x y : List ℕ) → key_spelling k ++ x ≡ key_spelling l ++ y → (k ≡ l) × (x ≡ y)
+pub key-same : (k l x y : List ℕ) → key_spelling k ++ x ≡ key_spelling l ++ y → (k ≡ l) × (x ≡ y)
 key-same k l x y same =
     let len : length k ≡ length l = ap (λ (bytes : List ℕ). get_or bytes 0 0) same in
     split-same k l x y len (ap (drop 1) same)

@@ -1,5 +1,6 @@
 -- What the pages of a disk read as.
 use Rattle.std.specs.Prelude.{ℕ, ◌+◌, ◌-◌, ◌<◌, ◌==◌, ◌≡◌, List, [], ◌∷◌, ◌++◌, length, replicate, slice_index, if◌then◌else◌}
+use Rattle.std.specs.List.{flat_map, range_with_len}
 
 -- the bytes of each page
 abbrev pub Image : Type 0
@@ -17,6 +18,10 @@ zero_page = replicate page_bytes 0
 pub record IsPage (bytes : List ℕ) : Type 0 where
   pub whole : length bytes ≡ page_bytes
   pub each : (i : ℕ) → slice_index bytes i < 256
+
+-- the bytes of so many pages, from page `first` on, one behind the other
+abbrev pub area_of : Image → ℕ → ℕ → List ℕ
+area_of image first count = flat_map image (range_with_len first count)
 
 -- each page is one
 abbrev pub HasPages : Image → Type 0

@@ -19,6 +19,8 @@ pub mod Form
 pub mod Closing
 pub mod State
 pub mod Tuple
+pub mod Frame
+pub mod Half
 pub mod Holds
 pub mod Space
 pub mod Verify
@@ -29,3 +31,8 @@ pub mod Judgement
 pub mod World
 pub mod Field
 pub mod TupleFields
+pub mod HalfFields
+pub mod HalfRefusals
+pub mod BodyRefusals
+pub mod LogReading
+pub mod Reading

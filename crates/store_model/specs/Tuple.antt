@@ -60,6 +60,12 @@ pub record IsTuple (pages : ℕ) (key : List ℕ) (state : State) : Type 0 where
   pub extents : (i : ℕ) (extent : Extent) → slice_get state.extents i ≡ Some extent → extent.head + pages_of_extent i ≤ pages
   pub tail : IfSome state.tail (λ page. page < pages)
 
+-- the key stands at the front of these bytes, behind its length; anything may follow it
+pub record IsKeyAtFront (stored key : List ℕ) : Type 0 where
+  pub named : IsTrue (is_key key)
+  pub rest : List ℕ
+  pub stored_is : stored ≡ key_spelling key ++ rest
+
 -- the tuple stands at the front of these bytes; anything may follow it
 pub record IsAtFront (pages : ℕ) (stored key : List ℕ) (state : State) : Type 0 where
   pub tuple : IsTuple pages key state

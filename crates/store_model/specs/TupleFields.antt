@@ -25,6 +25,16 @@ is_filled size prefix = list_all (λ byte. byte == 0) (drop size prefix)
 abbrev pub is_head : ℕ → ℕ → ℕ → Bool
 is_head pages i head = head % pages_of_extent i == 0 && nat_le (head + pages_of_extent i) pages
 
+-- The rules of the form that a tuple stands in: which keys it may have there, and the least and the greatest number.
+pub record Rules : Type 0 where
+  pub key : List ℕ → Bool
+  pub least : ℕ
+  pub most : ℕ
+
+-- all keys, and all numbers of entries
+abbrev pub any_tuple : Rules
+any_tuple = record { key = λ key. true; least = 1; most = greatest_number }
+
 -- the key's length, 3 to 64, and the key
 abbrev pub key_fields : ℕ → List Field
 key_fields key =
@@ -32,11 +42,15 @@ key_fields key =
     ∷ record { at = 1; bytes = key; rule = KeyText }
     ∷ []
 
--- the size, the number of the entry, the digest and the prefix of a content of this size
-abbrev pub content_fields : ℕ → ℕ → List Field
-content_fields at size =
+-- These, and then both once more, where the form's rule of keys is judged: what breaks it is named by the key's length.
+abbrev pub ruled_key_fields : (List ℕ → Bool) → ℕ → List Field
+ruled_key_fields may_stand key = key_fields key ++ record { at = 0; bytes = 1 + key; rule = Bytes (λ bytes. may_stand (drop 1 bytes)) } ∷ []
+
+-- the size, the number of the entry from least to most, the digest and the prefix of a content of this size
+abbrev pub content_fields : ℕ → ℕ → ℕ → ℕ → List Field
+content_fields least most at size =
     record { at = at; bytes = 4; rule = Number w32 (λ n. nat_le n greatest_size) }
-    ∷ record { at = at + 4; bytes = 8; rule = Number w64 (is_within 1 greatest_number) }
+    ∷ record { at = at + 4; bytes = 8; rule = Number w64 (is_within least most) }
     ∷ record { at = at + 12; bytes = 32; rule = Bytes any_bytes }
     ∷ record { at = at + 44; bytes = 32; rule = Bytes (is_filled size) }
     ∷ []
@@ -72,12 +86,16 @@ fields_at stored = 1 + told_key stored
 abbrev pub told_size : List ℕ → ℕ
 told_size stored = told_four stored (fields_at stored)
 
--- the fields of a tuple with so many extents, whose key's length and size are those that these bytes tell
-abbrev pub tuple_fields : ℕ → List ℕ → ℕ → List Field
-tuple_fields pages stored extents =
-    key_fields (told_key stored)
-    ++ content_fields (fields_at stored) (told_size stored)
+-- The fields of a state with so many extents behind its key, and of the whole tuple, whose key's length and size are those that
+-- these bytes tell.
+abbrev pub state_fields : ℕ → ℕ → ℕ → List ℕ → ℕ → List Field
+state_fields least most pages stored extents =
+    content_fields least most (fields_at stored) (told_size stored)
     ++ places_fields pages (fields_at stored + stored_fields) (told_size stored) extents
+
+abbrev pub tuple_fields : Rules → ℕ → List ℕ → ℕ → List Field
+tuple_fields rules pages stored extents =
+    ruled_key_fields rules.key (told_key stored) ++ state_fields rules.least rules.most pages stored extents
 
 -- the extent that the bytes at an offset tell
 pub record IsExtentTold (stored : List ℕ) (at : ℕ) (extent : Extent) : Type 0 where
@@ -90,9 +108,15 @@ abbrev pub AreExtentsTold : List ℕ → ℕ → List Extent → Type 0
 AreExtentsTold stored at extents =
     (i : ℕ) (extent : Extent) → slice_get extents i ≡ Some extent → IsExtentTold stored (at + stored_extent * i) extent
 
--- The first field of a tuple that is cut short or breaks its rule is named by this offset. There are as many extents as
--- the size has, where it is one.
-pub record IsBadTuple (pages : ℕ) (stored : List ℕ) (at : ℕ) : Type 0 where
+-- The first field of a state behind its key that is cut short or breaks its rule is named by this offset. There are as many extents
+-- as the size has, where it is one.
+pub record IsBadState (least most pages : ℕ) (stored : List ℕ) (at : ℕ) : Type 0 where
   pub extents : ℕ
   pub counted : told_size stored ≤ greatest_size → HasExtents (told_size stored) extents
-  pub first : IsFirstBroken stored (tuple_fields pages stored extents) at
+  pub first : IsFirstBroken stored (state_fields least most pages stored extents) at
+
+-- The same of the fields of a whole tuple.
+pub record IsBadTuple (rules : Rules) (pages : ℕ) (stored : List ℕ) (at : ℕ) : Type 0 where
+  pub extents : ℕ
+  pub counted : told_size stored ≤ greatest_size → HasExtents (told_size stored) extents
+  pub first : IsFirstBroken stored (tuple_fields rules pages stored extents) at

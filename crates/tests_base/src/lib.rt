@@ -18,7 +18,11 @@ mod extents;
 #[cfg(test)]
 mod file;
 #[cfg(test)]
+mod frames;
+#[cfg(test)]
 mod groups;
+#[cfg(test)]
+mod half_reads;
 #[cfg(test)]
 mod hash;
 #[cfg(test)]
@@ -28,7 +32,11 @@ mod keys;
 #[cfg(test)]
 mod lists;
 #[cfg(test)]
+mod log_reads;
+#[cfg(test)]
 mod logs;
+#[cfg(test)]
+mod openings;
 #[cfg(test)]
 mod relations;
 #[cfg(test)]

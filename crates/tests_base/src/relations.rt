@@ -9,8 +9,8 @@ use relation::Relation;
 use std::process::Abort;
 use std::test::Fail;
 
-// The state of a content of a few bytes, on this page.
-fn state_of<R: Abort>(rt: &R, content: &[u8], page: u32) -> BlobState {
+/// The state of a content of a few bytes, on this page, whose number is 1.
+pub(crate) fn state_of<R: Abort>(rt: &R, content: &[u8], page: u32) -> BlobState {
     let draft = Draft::put(content).expect(rt, "a draft");
     let size = draft.size();
     assert!(rt; draft.marks().len() == 0);

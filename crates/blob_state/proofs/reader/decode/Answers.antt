@@ -1,130 +1,36 @@
--- What was read of a tuple, put together.
-use Rattle.std.proofs.Common.{rules, ◌≡◌, ℕ, ◌+◌, ◌*◌, List, length, sym, ◌∙◌, arith}
+-- A tuple is a key, and a state behind it.
+use Rattle.std.proofs.Common.{refl, sym, ◌∙◌, arith}
 use Rattle.std.proofs.lemmas.Result.{MatchResult-weaker, err_from_is_err_and}
-use Rattle.std.proofs.lemmas.List.{length-map}
-use Rattle.store_model.specs.State.{Extent, HasExtents, IsState, State}
-use Rattle.store_model.specs.Tuple.{tail_spelling}
-use Rattle.store_model.specs.TupleFields.{fields_at}
-use Rattle.store_model.proofs.StateLaws.{length-spelling}
-use Rattle.store_model.proofs.StoredLaws.{length-tail_spelling}
-use Rattle.store_model.proofs.FieldLaws.{AreBytes}
-use Rattle.store_model.proofs.TupleFieldLaws.{AreAllGood, IsAtFront-not_bad, IsAtFront-told, IsTailTold, IsTold, IsBadTuple-content, IsBadTuple-extents, IsBadTuple-key, IsBadTuple-tail, fields_at-key}
+use Rattle.store_model.specs.TupleFields.{any_tuple}
+use Rattle.store_model.proofs.TupleFieldLaws.{IsAtFront-not_bad, KeepsRules-any}
+use Rattle.store_model.proofs.BadTupleLaws.{IsBadTuple-key, IsBadTuple-state}
 use Rattle.store_model.proofs.TupleLaws.{spelling-unique}
-use Rattle.blob_state.specs.Values.{extent_of, extents_of}
 use Rattle.blob_state.proofs.reader.decode.Goals as goal
 
 pub returns-in_err-key-clause-bad : goal.returns-in_err-key-clause-bad
 returns-in_err-key-clause-bad c =
     let p = err_from_is_err_and c.from_residual.result c.from_residual.ensures.1 in
-    rw (p.1, p.2) (IsBadTuple-key c.args.pages c.args.bytes.now _ c.in_err-key.ensures.bad)
+    rw (p.1, p.2) (IsBadTuple-key any_tuple c.args.pages c.args.bytes.now _ c.in_err-key.ensures.bad)
 
 pub returns-in_err-key-clause-none : goal.returns-in_err-key-clause-none
 returns-in_err-key-clause-none c =
     MatchResult-weaker c.from_residual.result (returns-in_err-key-clause-bad c) (λ tuple t. t)
-    (λ bad is key state front. IsAtFront-not_bad c.args.pages c.args.bytes.now key state bad.at (omega arith) front is)
+    (λ bad is key state front. IsAtFront-not_bad any_tuple c.args.pages c.args.bytes.now key state bad.at (omega arith) front
+    (KeepsRules-any c.args.pages key state front.tuple) is)
 
-pub returns-in_err-fields-clause-bad : goal.returns-in_err-fields-clause-bad
-returns-in_err-fields-clause-bad c =
-    let p = err_from_is_err_and c.from_residual-in_err-fields.result c.from_residual-in_err-fields.ensures.1 in
-    let bytes : List ℕ = c.args.bytes.now in
-    let front = c.in_ok-key.ensures.good in
-    let at : ℕ = 1 + length c.text.result.now in
-    let start : at ≡ fields_at bytes = fields_at-key bytes c.in_ok-key.key c.text.result.now front c.in_ok-key.ensures.text c.text.ensures.text in
-    rw (p.1, p.2) (IsBadTuple-content c.args.pages bytes at _ start front c.in_err-fields.ensures.bad)
+pub returns-in_err-stored-clause-bad : goal.returns-in_err-stored-clause-bad
+returns-in_err-stored-clause-bad c =
+    let p = err_from_is_err_and c.from_residual-in_err-stored.result c.from_residual-in_err-stored.ensures.1 in
+    rw (p.1, p.2) (IsBadTuple-state any_tuple c.args.pages c.args.bytes.now c.in_ok-key.key _ c.in_ok-key.ensures.front refl c.in_err-stored.ensures.bad)
 
-pub returns-in_err-fields-clause-none : goal.returns-in_err-fields-clause-none
-returns-in_err-fields-clause-none c =
-    MatchResult-weaker c.from_residual-in_err-fields.result (returns-in_err-fields-clause-bad c) (λ tuple t. t)
-    (λ bad is key state front. IsAtFront-not_bad c.args.pages c.args.bytes.now key state bad.at (omega arith) front is)
-
-pub returns-in_err-read_extents-clause-bad : goal.returns-in_err-read_extents-clause-bad
-returns-in_err-read_extents-clause-bad c =
-    let p = err_from_is_err_and c.from_residual-in_err-read_extents.result c.from_residual-in_err-read_extents.ensures.1 in
-    let bytes : List ℕ = c.args.bytes.now in
-    let front = c.in_ok-key.ensures.good in
-    let at : ℕ = 1 + length c.text.result.now in
-    let start : at ≡ fields_at bytes = fields_at-key bytes c.in_ok-key.key c.text.result.now front c.in_ok-key.ensures.text c.text.ensures.text in
-    rw (p.1, p.2) (IsBadTuple-extents c.args.pages bytes at c.in_ok-fields.fields.size c.in_ok-fields.fields.extents _ start
-    c.in_ok-fields.ensures.size c.in_ok-fields.ensures.extents front c.in_ok-fields.ensures.good c.in_err-read_extents.ensures.bad)
-
-pub returns-in_err-read_extents-clause-none : goal.returns-in_err-read_extents-clause-none
-returns-in_err-read_extents-clause-none c =
-    MatchResult-weaker c.from_residual-in_err-read_extents.result (returns-in_err-read_extents-clause-bad c) (λ tuple t. t)
-    (λ bad is key state front. IsAtFront-not_bad c.args.pages c.args.bytes.now key state bad.at (omega arith) front is)
-
-pub returns-in_err-tail-clause-bad : goal.returns-in_err-tail-clause-bad
-returns-in_err-tail-clause-bad c =
-    let p = err_from_is_err_and c.from_residual-in_err-tail.result c.from_residual-in_err-tail.ensures.1 in
-    let bytes : List ℕ = c.args.bytes.now in
-    let front = c.in_ok-key.ensures.good in
-    let at : ℕ = 1 + length c.text.result.now in
-    let start : at ≡ fields_at bytes = fields_at-key bytes c.in_ok-key.key c.text.result.now front c.in_ok-key.ensures.text c.text.ensures.text in
-    let count : c.len.result ≡ c.in_ok-fields.fields.extents = c.len.ensures.value ∙ c.in_ok-read_extents.ensures.number in
-    rw (p.1, p.2) (IsBadTuple-tail c.args.pages bytes at c.in_ok-fields.fields.size c.in_ok-fields.fields.extents _ start
-    c.in_ok-fields.ensures.size c.in_ok-fields.ensures.extents front c.in_ok-fields.ensures.good c.in_ok-read_extents.ensures.good
-    (rw count at c.in_err-tail.ensures.bad))
-
-pub returns-in_err-tail-clause-none : goal.returns-in_err-tail-clause-none
-returns-in_err-tail-clause-none c =
-    MatchResult-weaker c.from_residual-in_err-tail.result (returns-in_err-tail-clause-bad c) (λ tuple t. t)
-    (λ bad is key state front. IsAtFront-not_bad c.args.pages c.args.bytes.now key state bad.at (omega arith) front is)
-
--- the tuple that was read stands there
-pub returns-clause-front : goal.returns-clause-front
-returns-clause-front c =
-    let bytes : List ℕ = c.args.bytes.now in
-    let front = c.in_ok-key.ensures.good in
-    let at : ℕ = 1 + length c.text.result.now in
-    let start : at ≡ fields_at bytes = fields_at-key bytes c.in_ok-key.key c.text.result.now front c.in_ok-key.ensures.text c.text.ensures.text in
-    let fields = c.in_ok-fields.fields in
-    let items = c.read_extents.new.extents.items in
-    let extents : List Extent = extents_of items in
-    let state : State =
-    record { size = fields.size; born = fields.born; digest = fields.digest.bytes; prefix = fields.prefix; extents = extents; tail = c.in_ok-tail.tail } in
-    let number : length extents ≡ length items = length-map items extent_of in
-    let count : fields.extents ≡ length extents = sym c.in_ok-read_extents.ensures.number ∙ sym number in
-    let all : c.len.result ≡ length extents = c.len.ensures.value ∙ sym number in
-    let has : HasExtents fields.size (length extents) = rw count at c.in_ok-fields.ensures.extents in
-    let tail : IsTailTold bytes (at + 76 + 36 * length extents) fields.size c.in_ok-tail.tail =
-    record { has = c.in_ok-tail.ensures.has; page = rw all at c.in_ok-tail.ensures.told } in
-    let told : IsTold bytes c.in_ok-key.key at state =
-    record {
-      text = c.in_ok-key.ensures.text;
-      size = c.in_ok-fields.ensures.size;
-      born = c.in_ok-fields.ensures.born;
-      digest = c.in_ok-fields.ensures.digest;
-      prefix = c.in_ok-fields.ensures.prefix;
-      extents = c.in_ok-read_extents.ensures.told;
-      tail = tail;
-    } in
-    let good : AreAllGood c.args.pages bytes at fields.size (length extents) =
-    record {
-      front = front;
-      content = c.in_ok-fields.ensures.good;
-      places = rw count at c.in_ok-read_extents.ensures.good;
-      tail = rw all at c.in_ok-tail.ensures.good;
-    } in
-    let range : AreBytes bytes = search rules in
-    IsAtFront-told c.args.pages bytes c.in_ok-key.key at state range start told has good
-
-pub invariant_of-result : goal.invariant_of-result
-invariant_of-result c = (returns-clause-front c).tuple.stands
-
-pub returns-clause-length : goal.returns-clause-length
-returns-clause-length c =
-    let fields = c.in_ok-fields.fields in
-    let items = c.read_extents.new.extents.items in
-    let state : State =
-    record { size = fields.size; born = fields.born; digest = fields.digest.bytes; prefix = fields.prefix; extents = extents_of items; tail = c.in_ok-tail.tail } in
-    let key : List ℕ = c.in_ok-key.key in
-    let is : IsState state = (returns-clause-front c).tuple.stands in
-    let number : length state.extents ≡ length items = length-map items extent_of in
-    let sum : c.stored_bytes-length.result ≡ 1 + length key + 76 + 36 * length state.extents + length (tail_spelling state.tail) =
-    omega (arith, number, length-tail_spelling state.tail, c.len-2.ensures.value, c.stored_bytes-length.ensures.value) in
-    sum ∙ sym (length-spelling key state is.digest is.prefix.bytes is.marks)
+pub returns-in_err-stored-clause-none : goal.returns-in_err-stored-clause-none
+returns-in_err-stored-clause-none c =
+    MatchResult-weaker c.from_residual-in_err-stored.result (returns-in_err-stored-clause-bad c) (λ tuple t. t)
+    (λ bad is key state front. IsAtFront-not_bad any_tuple c.args.pages c.args.bytes.now key state bad.at (omega arith) front
+    (KeepsRules-any c.args.pages key state front.tuple) is)
 
 pub returns-clause-one : goal.returns-clause-one
 returns-clause-one c = λ key state other.
-    let mine = returns-clause-front c in
+    let mine = c.in_ok-stored.ensures.front in
     let same = spelling-unique c.args.pages key c.in_ok-key.key state _ other.rest mine.rest (omega arith) other.tuple mine.tuple (sym other.stored_is ∙ mine.stored_is) in
     (same.0, same.1)

@@ -6,7 +6,8 @@ use Rattle.relation.specs.Parts.{encoded_by, owned_by}
 use Rattle.store_model.specs.Group.{commits_of}
 use Rattle.store_model.specs.Judgement.{Ledger}
 use Rattle.store_model.specs.Layout.{data_pages}
-use Rattle.blob_store.specs.Stores.{IsSound, Led, StoreStands, pours_of_all, requests_at, with_entries}
+use Rattle.blob_store.specs.Stores.{IsSound, Led, StoreStands, pours_of_all, requests_at}
+use Rattle.relation.specs.Changes.{with_entries}
 use Rattle.blob_store.specs.declared.store.Store.{Store}
 use Rattle.blob_store.proofs.Committing.{AreMade-members, left-made, room-made}
 use Rattle.blob_store.proofs.Disks.{HasPoured, commit-did, commit-stands, none-counted, none-did, none-stands, some-counted}
@@ -20,41 +21,41 @@ plan_group-requires-clause-lengthen g c = lengthen-whole c.args.self.now.relatio
 
 pub commit-requires-clause-places : goal.commit-requires-clause-places
 commit-requires-clause-places g c =
-    lead-places (ledger_by c.args.self.now.relation.states c.args.self.now.last c.states_room.result c.args.self.now.space.pages) c.args.queue.now c.in_ok-plan.plan.entries c.in_ok-plan.plan.members c.in_ok-plan.ensures.planned.entries c.in_ok-plan.ensures.planned.members_are
+    lead-places (ledger_by c.args.self.now.relation.states c.args.self.now.last c.states_bytes.result c.args.self.now.space.pages) c.args.queue.now c.in_ok-plan.plan.entries c.in_ok-plan.plan.members c.in_ok-plan.ensures.planned.entries c.in_ok-plan.ensures.planned.members_are
 
 pub commit-requires-clause-within : goal.commit-requires-clause-within
 commit-requires-clause-within g c =
-    lead-within (ledger_by c.args.self.now.relation.states c.args.self.now.last c.states_room.result c.args.self.now.space.pages) c.args.queue.now c.in_ok-plan.plan.entries c.in_ok-plan.plan.members c.in_ok-plan.ensures.planned.entries c.in_ok-plan.ensures.planned.members_are
+    lead-within (ledger_by c.args.self.now.relation.states c.args.self.now.last c.states_bytes.result c.args.self.now.space.pages) c.args.queue.now c.in_ok-plan.plan.entries c.in_ok-plan.plan.members c.in_ok-plan.ensures.planned.entries c.in_ok-plan.ensures.planned.members_are
     c.requires.whole c.plan_group.new.space.owned c.args.self.now.space.owned c.in_ok-plan.ensures.space c.plan_group.new.space.pages (data_pages c.args.self.now.layout) c.rules.ensures.blocks
     (c.in_ok-plan.ensures.pages ∙ c.requires.sound.pages)
 
 pub commit-requires-clause-apart : goal.commit-requires-clause-apart
 commit-requires-clause-apart g c =
-    lead-apart (ledger_by c.args.self.now.relation.states c.args.self.now.last c.states_room.result c.args.self.now.space.pages) c.args.queue.now c.in_ok-plan.plan.entries c.in_ok-plan.plan.members c.in_ok-plan.ensures.planned.entries c.in_ok-plan.ensures.planned.members_are
+    lead-apart (ledger_by c.args.self.now.relation.states c.args.self.now.last c.states_bytes.result c.args.self.now.space.pages) c.args.queue.now c.in_ok-plan.plan.entries c.in_ok-plan.plan.members c.in_ok-plan.ensures.planned.entries c.in_ok-plan.ensures.planned.members_are
     c.requires.whole c.plan_group.new.space.owned c.args.self.now.space.owned c.in_ok-plan.ensures.space c.rules.ensures.apart
 
 pub commit-requires-clause-last : goal.commit-requires-clause-last
 commit-requires-clause-last g c =
-    lead-last (ledger_by c.args.self.now.relation.states c.args.self.now.last c.states_room.result c.args.self.now.space.pages) c.args.queue.now c.in_ok-plan.plan.entries c.in_ok-plan.plan.members c.in_ok-plan.ensures.planned.entries c.in_ok-plan.ensures.planned.members_are
+    lead-last (ledger_by c.args.self.now.relation.states c.args.self.now.last c.states_bytes.result c.args.self.now.space.pages) c.args.queue.now c.in_ok-plan.plan.entries c.in_ok-plan.plan.members c.in_ok-plan.ensures.planned.entries c.in_ok-plan.ensures.planned.members_are
     c.args.self.now.last refl c.requires.sound.last
 
 pub commit-requires-clause-room : goal.commit-requires-clause-room
 commit-requires-clause-room g c =
     let states = c.args.self.now.relation.states in
-    let commits = commits_of (members_of (ledger_by states c.args.self.now.last c.states_room.result c.args.self.now.space.pages) c.args.queue.now) in
-    let few : encoded_by states ≤ c.states_room.result = omega (arith, c.requires.sound.room, c.states_room.ensures.value) in
-    room-made c.states_room.result states commits c.in_ok-plan.plan.entries
-    (AreMade-members states c.args.self.now.last c.states_room.result c.args.self.now.space.pages c.args.queue.now c.in_ok-plan.plan.entries c.in_ok-plan.ensures.planned.entries c.requires.whole c.requires.sound.states few)
-    c.states_room.ensures.few
+    let commits = commits_of (members_of (ledger_by states c.args.self.now.last c.states_bytes.result c.args.self.now.space.pages) c.args.queue.now) in
+    let few : encoded_by states ≤ c.states_bytes.result = omega (arith, c.requires.sound.room, c.states_bytes.ensures.value) in
+    room-made c.states_bytes.result states commits c.in_ok-plan.plan.entries
+    (AreMade-members states c.args.self.now.last c.states_bytes.result c.args.self.now.space.pages c.args.queue.now c.in_ok-plan.plan.entries c.in_ok-plan.ensures.planned.entries c.requires.whole c.requires.sound.states few)
+    (omega (arith, c.states_bytes.ensures.most))
 
 pub commit-requires-clause-owned : goal.commit-requires-clause-owned
 commit-requires-clause-owned g c =
     let states = c.args.self.now.relation.states in
-    let commits = commits_of (members_of (ledger_by states c.args.self.now.last c.states_room.result c.args.self.now.space.pages) c.args.queue.now) in
-    let few : encoded_by states ≤ c.states_room.result = omega (arith, c.requires.sound.room, c.states_room.ensures.value) in (
+    let commits = commits_of (members_of (ledger_by states c.args.self.now.last c.states_bytes.result c.args.self.now.space.pages) c.args.queue.now) in
+    let few : encoded_by states ≤ c.states_bytes.result = omega (arith, c.requires.sound.room, c.states_bytes.ensures.value) in (
       owned_by (with_entries states c.in_ok-plan.plan.entries),
-      left-made c.states_room.result states commits c.in_ok-plan.plan.entries
-          (AreMade-members states c.args.self.now.last c.states_room.result c.args.self.now.space.pages c.args.queue.now c.in_ok-plan.plan.entries c.in_ok-plan.ensures.planned.entries c.requires.whole c.requires.sound.states few)
+      left-made c.states_bytes.result states commits c.in_ok-plan.plan.entries
+          (AreMade-members states c.args.self.now.last c.states_bytes.result c.args.self.now.space.pages c.args.queue.now c.in_ok-plan.plan.entries c.in_ok-plan.ensures.planned.entries c.requires.whole c.requires.sound.states few)
           c.args.self.now.space.owned c.plan_group.new.space.owned c.in_ok-plan.plan.frees c.requires.sound.owned c.in_ok-plan.ensures.space c.in_ok-plan.ensures.planned.frees,
     )
 
@@ -62,11 +63,11 @@ pub returns-clause-sound : goal.returns-clause-sound
 returns-clause-sound g c =
     let old = c.args.self.now in
     let states = old.relation.states in
-    let room = c.states_room.result in
+    let room = c.states_bytes.result in
     let es = c.in_ok-plan.plan.entries in
     let ledger = ledger_by states old.last room old.space.pages in
     let commits = commits_of (members_of ledger c.args.queue.now) in
-    let few : encoded_by states ≤ room = omega (arith, c.requires.sound.room, c.states_room.ensures.value) in
+    let few : encoded_by states ≤ room = omega (arith, c.requires.sound.room, c.states_bytes.ensures.value) in
     let made = AreMade-members states old.last room old.space.pages c.args.queue.now es c.in_ok-plan.ensures.planned.entries c.requires.whole c.requires.sound.states few in
     let left = left-made room states commits es made old.space.owned c.plan_group.new.space.owned c.in_ok-plan.plan.frees c.requires.sound.owned c.in_ok-plan.ensures.space c.in_ok-plan.ensures.planned.frees in
     let most = lead-last ledger c.args.queue.now es c.in_ok-plan.plan.members c.in_ok-plan.ensures.planned.entries c.in_ok-plan.ensures.planned.members_are old.last refl c.requires.sound.last in
@@ -76,7 +77,7 @@ returns-clause-sound g c =
           IsSound-made old c.if-not-is_empty.self room commits es
           (record {
             made = made;
-            room_is = c.states_room.ensures.value;
+            room_is = c.states_bytes.ensures.value;
             states = ap (λ (s : Store). s.relation.states) w.self-is ∙ w.in_ok-commit.ensures.states;
             owned = subst (λ (s : Store). IsPermutation s.space.owned (owned_by (with_entries states es))) (sym w.self-is) (w.in_ok-commit.ensures.owned (owned_by (with_entries states es)) left);
             pages = ap (λ (s : Store). s.space.pages) w.self-is ∙ w.commit.ensures.pages ∙ pages;
@@ -90,7 +91,7 @@ returns-clause-sound g c =
           IsSound-made old c.if-not-is_empty.self room commits es
           (record {
             made = made;
-            room_is = c.states_room.ensures.value;
+            room_is = c.states_bytes.ensures.value;
             states = ap (λ (s : Store). s.relation.states) w.self-is ∙ ap (with_entries states) (sym none);
             owned = subst (λ (s : Store). IsPermutation s.space.owned (owned_by (with_entries states es))) (sym w.self-is)
                 (left-none c.plan_group.new.space.owned c.in_ok-plan.plan.frees states commits es none count c.in_ok-plan.ensures.planned.frees left);
@@ -103,10 +104,10 @@ returns-clause-sound g c =
 
 pub returns-clause-led : goal.returns-clause-led
 returns-clause-led g c store stands =
-    let ledger : Ledger = ledger_by c.args.self.now.relation.states c.args.self.now.last c.states_room.result c.args.self.now.space.pages in
+    let ledger : Ledger = ledger_by c.args.self.now.relation.states c.args.self.now.last c.states_bytes.result c.args.self.now.space.pages in
     subst (λ (room : ℕ). Led g.D.Disk c.args.disk.now c.if-not-is_empty.disk c.args.self.now.layout store c.args.queue.now
     (members_of (ledger_by c.args.self.now.relation.states c.args.self.now.last room c.args.self.now.space.pages) c.args.queue.now) c.in_ok-plan.plan.replies c.if-not-is_empty.self)
-    c.states_room.ensures.value
+    c.states_bytes.ensures.value
     (elim c.if-not-is_empty.branch [
       | then-not-is_empty+in_ok-commit w ↦
           record {

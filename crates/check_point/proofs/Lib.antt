@@ -1,0 +1,9 @@
+pub mod Appendings
+pub mod Standings
+pub mod Headers
+pub mod Takings
+pub mod Finishings
+pub mod Areas
+pub mod HeaderReads
+pub mod TupleReads
+pub mod HalfReads

@@ -1,0 +1,14 @@
+pub mod Turned
+pub mod Puttings
+pub mod Formatted
+pub mod Verifyings
+pub mod Numbers
+pub mod Storing
+pub mod Takings
+pub mod Bodies
+pub mod Followings
+pub mod Settings
+pub mod LogTakings
+pub mod Owned
+pub mod Openings
+pub mod Halves

@@ -1,0 +1,111 @@
+use Rattle.std.proofs.Common.{◌≡◌, ℕ, ◌-◌, ◌∙◌, refl, ap, subst, arith}
+use Rattle.std.proofs.lemmas.Result.{err_from_is_err_and}
+use Rattle.disk_model.specs.Disks.{OnlyReads}
+use Rattle.disk_model.proofs.DiskLaws.{OnlyReads-then}
+use Rattle.recover.specs.Faults.{IsOfLog}
+use Rattle.recover.specs.Frames.{held_of}
+use Rattle.store_model.specs.Disk.{Image}
+use Rattle.store_model.specs.Half.{picked}
+use Rattle.store_model.specs.HalfRefusals.{FindsHalf}
+use Rattle.store_model.specs.LogReading.{HasBodies}
+use Rattle.store_model.specs.Reading.{Gives, KeptIn, Opened, Reads, TakesEach}
+use Rattle.recover.proofs.Openings.{FindsHalf-same, Gives-found, log-read, space-read, wrote-before}
+use Rattle.recover.proofs.opening.recover.Goals as goal
+
+pub returns-in_err-take_log-clause-refused : goal.returns-in_err-take_log-clause-refused
+returns-in_err-take_log-clause-refused g c tells =
+    let disk = g.D.Disk in
+    let image : Image = (disk.story c.args.disk.now).reads in
+    let held = held_of c.in_ok-held.held in
+    let synced : (disk.story c.sync.new.self).reads ≡ image = (c.sync.ensures.images tells).reads in
+    let half_read : (disk.story c.pick.new.disk).reads ≡ image = (c.pick.ensures.read.stayed tells).reads ∙ synced in
+    let opened : (disk.story c.open_half.new.disk).reads ≡ image = (c.open_half.ensures.only.stayed tells).reads ∙ half_read in
+    let picks : c.in_ok-half.half ≡ picked (image 0) = c.in_ok-half.ensures.picked tells ∙ ap (λ (pages : Image). picked (pages 0)) synced in
+    let finds : FindsHalf (disk.size c.args.disk.now) image c.in_ok-half.half held.layout held.last held.states =
+    FindsHalf-same (disk.size c.pick.new.disk) (disk.size c.args.disk.now) (disk.story c.pick.new.disk).reads image c.in_ok-half.half held
+    (c.pick.ensures.read.keeps.size ∙ c.sync.ensures.keeps.size) half_read (c.in_ok-held.ensures.found tells) in
+    let p = err_from_is_err_and c.from_residual-in_err-take_log.result c.from_residual-in_err-take_log.ensures.1 in
+    rw (p.1, p.2)
+    (log-read (disk.size c.args.disk.now) image c.in_ok-half.half held _ picks finds
+    (subst (λ (pages : Image). IsOfLog pages c.in_ok-half.half held c.in_err-take_log.field-0.0) opened (c.in_err-take_log.ensures.refused tells)))
+
+pub returns-in_err-check_apart-clause-refused : goal.returns-in_err-check_apart-clause-refused
+returns-in_err-check_apart-clause-refused g c tells =
+    let disk = g.D.Disk in
+    let image : Image = (disk.story c.args.disk.now).reads in
+    let held = held_of c.in_ok-held.held in
+    let synced : (disk.story c.sync.new.self).reads ≡ image = (c.sync.ensures.images tells).reads in
+    let half_read : (disk.story c.pick.new.disk).reads ≡ image = (c.pick.ensures.read.stayed tells).reads ∙ synced in
+    let opened : (disk.story c.open_half.new.disk).reads ≡ image = (c.open_half.ensures.only.stayed tells).reads ∙ half_read in
+    let picks : c.in_ok-half.half ≡ picked (image 0) = c.in_ok-half.ensures.picked tells ∙ ap (λ (pages : Image). picked (pages 0)) synced in
+    let finds : FindsHalf (disk.size c.args.disk.now) image c.in_ok-half.half held.layout held.last held.states =
+    FindsHalf-same (disk.size c.pick.new.disk) (disk.size c.args.disk.now) (disk.story c.pick.new.disk).reads image c.in_ok-half.half held
+    (c.pick.ensures.read.keeps.size ∙ c.sync.ensures.keeps.size) half_read (c.in_ok-held.ensures.found tells) in
+    let log = c.in_ok-take_log.ensures.taken tells in
+    let gives : Gives (disk.size c.args.disk.now) image (held_of c.take_log.new.self) =
+    Gives-found (disk.size c.args.disk.now) image c.in_ok-half.half held (held_of c.take_log.new.self) log.0 log.1.0 picks finds
+    (subst (λ (pages : Image). HasBodies pages c.in_ok-half.half log.0 log.1.0) opened log.1.1.0)
+    (subst (λ (pages : Image). TakesEach (KeptIn pages held.layout) held log.0 (held_of c.take_log.new.self)) opened log.1.1.1) in
+    let p = err_from_is_err_and c.from_residual-in_err-check_apart.result c.from_residual-in_err-check_apart.ensures.1 in
+    rw (p.1, p.2) (space-read (disk.size c.args.disk.now) image (held_of c.take_log.new.self) _ gives c.in_err-check_apart.ensures.twice)
+
+pub returns-clause-found : goal.returns-clause-found
+returns-clause-found g c tells =
+    let disk = g.D.Disk in
+    let image : Image = (disk.story c.args.disk.now).reads in
+    let held = held_of c.in_ok-held.held in
+    let synced : (disk.story c.sync.new.self).reads ≡ image = (c.sync.ensures.images tells).reads in
+    let half_read : (disk.story c.pick.new.disk).reads ≡ image = (c.pick.ensures.read.stayed tells).reads ∙ synced in
+    let opened : (disk.story c.open_half.new.disk).reads ≡ image = (c.open_half.ensures.only.stayed tells).reads ∙ half_read in
+    let picks : c.in_ok-half.half ≡ picked (image 0) = c.in_ok-half.ensures.picked tells ∙ ap (λ (pages : Image). picked (pages 0)) synced in
+    let finds : FindsHalf (disk.size c.args.disk.now) image c.in_ok-half.half held.layout held.last held.states =
+    FindsHalf-same (disk.size c.pick.new.disk) (disk.size c.args.disk.now) (disk.story c.pick.new.disk).reads image c.in_ok-half.half held
+    (c.pick.ensures.read.keeps.size ∙ c.sync.ensures.keeps.size) half_read (c.in_ok-held.ensures.found tells) in
+    let log = c.in_ok-take_log.ensures.taken tells in
+    let gives : Gives (disk.size c.args.disk.now) image (held_of c.take_log.new.self) =
+    Gives-found (disk.size c.args.disk.now) image c.in_ok-half.half held (held_of c.take_log.new.self) log.0 log.1.0 picks finds
+    (subst (λ (pages : Image). HasBodies pages c.in_ok-half.half log.0 log.1.0) opened log.1.1.0)
+    (subst (λ (pages : Image). TakesEach (KeptIn pages held.layout) held log.0 (held_of c.take_log.new.self)) opened log.1.1.1) in
+    (gives, c.in_ok-check_apart.ensures.apart)
+
+pub returns-clause-turned : goal.returns-clause-turned
+returns-clause-turned g c tells =
+    let disk = g.D.Disk in
+    let size : disk.size c.take_log.new.disk ≡ disk.size c.args.disk.now =
+    c.take_log.ensures.only.keeps.size ∙ c.open_half.ensures.only.keeps.size ∙ c.pick.ensures.read.keeps.size ∙ c.sync.ensures.keeps.size in
+    subst (λ (n : ℕ). Reads n (disk.story c.turn.new.disk).reads (Opened (held_of c.take_log.new.self))) size
+    (c.in_ok-turn.ensures.reads tells c.in_ok-check_apart.ensures.apart)
+
+pub returns-in_err-turn-clause-wrote : goal.returns-in_err-turn-clause-wrote
+returns-in_err-turn-clause-wrote g c =
+    let disk = g.D.Disk in
+    let image : Image = (disk.story c.args.disk.now).reads in
+    let held = held_of c.in_ok-held.held in
+    let synced : OnlyReads disk c.args.disk.now c.sync.new.self = record { keeps = c.sync.ensures.keeps; stayed = c.sync.ensures.images } in
+    let half_read : OnlyReads disk c.args.disk.now c.pick.new.disk = OnlyReads-then disk c.args.disk.now c.sync.new.self c.pick.new.disk synced c.pick.ensures.read in
+    let opened : OnlyReads disk c.args.disk.now c.open_half.new.disk = OnlyReads-then disk c.args.disk.now c.pick.new.disk c.open_half.new.disk half_read c.open_half.ensures.only in
+    let taken : OnlyReads disk c.args.disk.now c.take_log.new.disk = OnlyReads-then disk c.args.disk.now c.open_half.new.disk c.take_log.new.disk opened c.take_log.ensures.only in
+    wrote-before disk (disk.size c.args.disk.now) image (picked (image 0)) (1 - c.in_ok-half.half) c.take_log.new.self.layout held c.args.disk.now c.take_log.new.disk c.turn.new.disk taken c.turn.ensures.wrote
+    (omega arith) c.take_log.ensures.layout refl
+    (λ tells.
+    let picks : c.in_ok-half.half ≡ picked (image 0) = c.in_ok-half.ensures.picked tells ∙ ap (λ (pages : Image). picked (pages 0)) (synced.stayed tells).reads in
+    subst (λ (h : ℕ). FindsHalf (disk.size c.args.disk.now) image h held.layout held.last held.states) picks
+    (FindsHalf-same (disk.size c.pick.new.disk) (disk.size c.args.disk.now) (disk.story c.pick.new.disk).reads image c.in_ok-half.half held
+    half_read.keeps.size (half_read.stayed tells).reads (c.in_ok-held.ensures.found tells)))
+
+pub returns-clause-wrote : goal.returns-clause-wrote
+returns-clause-wrote g c =
+    let disk = g.D.Disk in
+    let image : Image = (disk.story c.args.disk.now).reads in
+    let held = held_of c.in_ok-held.held in
+    let synced : OnlyReads disk c.args.disk.now c.sync.new.self = record { keeps = c.sync.ensures.keeps; stayed = c.sync.ensures.images } in
+    let half_read : OnlyReads disk c.args.disk.now c.pick.new.disk = OnlyReads-then disk c.args.disk.now c.sync.new.self c.pick.new.disk synced c.pick.ensures.read in
+    let opened : OnlyReads disk c.args.disk.now c.open_half.new.disk = OnlyReads-then disk c.args.disk.now c.pick.new.disk c.open_half.new.disk half_read c.open_half.ensures.only in
+    let taken : OnlyReads disk c.args.disk.now c.take_log.new.disk = OnlyReads-then disk c.args.disk.now c.open_half.new.disk c.take_log.new.disk opened c.take_log.ensures.only in
+    wrote-before disk (disk.size c.args.disk.now) image (picked (image 0)) (1 - c.in_ok-half.half) c.take_log.new.self.layout held c.args.disk.now c.take_log.new.disk c.turn.new.disk taken c.turn.ensures.wrote
+    (omega arith) c.take_log.ensures.layout refl
+    (λ tells.
+    let picks : c.in_ok-half.half ≡ picked (image 0) = c.in_ok-half.ensures.picked tells ∙ ap (λ (pages : Image). picked (pages 0)) (synced.stayed tells).reads in
+    subst (λ (h : ℕ). FindsHalf (disk.size c.args.disk.now) image h held.layout held.last held.states) picks
+    (FindsHalf-same (disk.size c.pick.new.disk) (disk.size c.args.disk.now) (disk.story c.pick.new.disk).reads image c.in_ok-half.half held
+    half_read.keeps.size (half_read.stayed tells).reads (c.in_ok-held.ensures.found tells)))

@@ -1,0 +1,34 @@
+use Rattle.std.proofs.Common.{◌≡◌, inl, inr, ap, ◌∙◌}
+use Rattle.std.proofs.lemmas.Result.{on_ok_weaker}
+use Rattle.disk_model.proofs.DiskLaws.{OnlyWrites-more, OnlyWrites-reads, OnlyWrites-wider}
+use Rattle.check_point.specs.Writers.{IsOfHalf}
+use Rattle.store_model.specs.Disk.{Image}
+use Rattle.store_model.specs.Half.{picked}
+use Rattle.recover.specs.Turns.{IsTurnPage}
+use Rattle.recover.proofs.Turned.{Reads-turned}
+use Rattle.recover.proofs.turning.turn_to.Goals as goal
+
+pub returns-in_err-flip-clause-wrote : goal.returns-in_err-flip-clause-wrote
+returns-in_err-flip-clause-wrote g c =
+    let disk = g.D.Disk in
+    let pages = IsTurnPage c.args.writer.layout c.args.writer.half in
+    OnlyWrites-more disk (λ p. p ≡ 0) pages c.args.disk.now c.sync.new.self c.flip.new.disk (λ p zero. inr zero)
+    (OnlyWrites-reads disk pages c.args.disk.now c.finish.new.disk c.sync.new.self
+    (OnlyWrites-wider disk (IsOfHalf c.args.writer.layout c.args.writer.half) pages c.args.disk.now c.finish.new.disk (λ p there. inl there) c.finish.ensures.wrote)
+    (record { keeps = c.sync.ensures.keeps; stayed = c.sync.ensures.images }))
+    c.flip.ensures.wrote
+
+pub returns-clause-reads : goal.returns-clause-reads
+returns-clause-reads g c tells states half had stood apart =
+    let disk = g.D.Disk in
+    let writer = c.args.writer in
+    let ended : Image = (disk.story c.finish.new.disk).reads in
+    let synced : (disk.story c.sync.new.self).reads ≡ ended = (c.sync.ensures.images tells).reads in
+    let stayed : (disk.story c.sync-2.new.self).reads ≡ (disk.story c.flip.new.disk).reads = (c.sync-2.ensures.images tells).reads in
+    on_ok_weaker c.sync-2.result
+    (λ settled. Reads-turned (disk.size c.args.disk.now) writer.half writer.last writer.layout states ended (disk.story c.sync-2.new.self).reads c.requires.disk
+    (c.in_ok-finish.ensures.spells tells states half had stood) (c.in_ok-finish.ensures.gate tells)
+    (λ p other. ap (λ (image : Image). image p) stayed ∙ (c.flip.ensures.wrote.wrote tells).reads p other ∙ ap (λ (image : Image). image p) synced)
+    (ap (λ (image : Image). picked (image 0)) stayed ∙ c.in_ok-flip.ensures.picked tells ∙ c.requires.half)
+    apart)
+    (c.sync-2.ensures.settled tells)

@@ -1,0 +1,27 @@
+-- What is found on a disk that is opened.
+use Rattle.std.specs.Prelude.{ℕ, ◌≡◌, ◌≤◌, ◌<◌}
+use Rattle.recover.specs.declared.opening.Found.{Found}
+use Rattle.store_model.specs.Disk.{Image}
+use Rattle.store_model.specs.Half.{IsHalf, picked}
+use Rattle.store_model.specs.HalfRefusals.{FindsHalf}
+use Rattle.store_model.specs.Layout.{data_page, total_pages}
+use Rattle.store_model.specs.Reading as reading
+use Rattle.store_model.specs.Reading.{blocks_of_states}
+use Rattle.store_model.specs.Space.{Apart}
+
+-- the store that was found
+abbrev pub found_of : Found → reading.Found
+found_of found = record { layout = found.layout; last = found.last; states = found.relation.states }
+
+-- It fits a disk of so many pages, its states are those that a half may have, no page is owned twice, and its log is at its start.
+pub record IsFound (pages : ℕ) (found : Found) : Type 0 where
+  pub fits : total_pages found.layout ≤ pages
+  pub half : IsHalf found.layout found.last found.relation.states
+  pub apart : Apart (blocks_of_states found.relation.states)
+  pub log : found.log ≡ record { layout = found.layout; half = found.log.half; gate = 0; next = 0 }
+
+-- a page before the data area of the layout that the picked half tells
+pub record IsMetadata (pages : ℕ) (image : Image) (p : ℕ) : Type 0 where
+  pub start : reading.Found
+  pub finds : FindsHalf pages image (picked (image 0)) start.layout start.last start.states
+  pub before : p < data_page start.layout
