@@ -22,8 +22,6 @@ mod frames;
 #[cfg(test)]
 mod groups;
 #[cfg(test)]
-mod half_reads;
-#[cfg(test)]
 mod hash;
 #[cfg(test)]
 mod key_lists;
@@ -32,11 +30,7 @@ mod keys;
 #[cfg(test)]
 mod lists;
 #[cfg(test)]
-mod log_reads;
-#[cfg(test)]
 mod logs;
-#[cfg(test)]
-mod openings;
 #[cfg(test)]
 mod relations;
 #[cfg(test)]
