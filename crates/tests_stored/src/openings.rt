@@ -1,6 +1,8 @@
 // The format of a disk, and its opening. The pages and their bytes are those of the format, written by hand; each disk has
 // the smallest layout, where the data area begins at page 1029.
 
+ghost use Rattle.std.specs.Prelude.{◌≡◌};
+
 use blob_base::{Bytes64, PAGE_BYTES, StoreRefusal};
 use disk_model::{Disk, Layout, MemDisk, Page};
 use recover::{Found, RecoverFault, format, recover};
