@@ -1,13 +1,15 @@
 """Checks the model alone: by the worked cases, which the program is also run on, and by further
 examples whose answers, places and pages were found by hand.
 
-`python3 outside/examples.py` checks them all. Lines are joined here by `; `.
+`python3 outside/examples.py` checks them all, those of disks too, which are in disk_examples.py.
+Lines are joined here by `; `.
 """
 
 import sys
 
 sys.dont_write_bytecode = True  # nothing is left beside this file
 
+import disk_examples
 import model
 import worked
 
@@ -153,7 +155,7 @@ def words() -> None:
     for faulty in ([], [b"steps"], [b"fresh", b"s", b"0", b"1"], [b"fresh", b"", b"1", b"1"],
                    [b"fresh", b"s", b"16385", b"1"], [b"fresh", b"s", b"1", b"1025"],
                    [b"fresh", b"s", b"01", b"1"], [b"fresh", b"s", b"1", b"1", b"1"],
-                   [b"format", b"s", b"1", b"1"], [b"show", b"s"]):
+                   [b"format", b"s", b"1"], [b"show"], [b"check", b"s", b"1"]):
         same(model.run(faulty, b"0 begin\n")[:2], (b"usage\n", 8))
     same(model.run([b"fresh", b"s", b"16384", b"1024"], b"").length, 4096 * (1027 + 2048 + 1024 * 16384))
     same(model.run([b"fresh", b"no/s", b"1", b"1"], b"", opens=False)[1:3], (11, b"cannot open no/s\n"))
@@ -162,4 +164,5 @@ def words() -> None:
 if __name__ == "__main__":
     for check in (worked_cases, first_path, places, contents, full_stores, sessions, words):
         check()
+    disk_examples.check_all()
     print("all examples hold")

@@ -34,9 +34,10 @@ class Built(NamedTuple):
 
 
 # The program of today. To widen the model, widen this table; a verb that has no function in
-# ACTIONS or RUN_LINES below needs one.
+# ACTIONS or RUN_LINES below needs one. `run` is of the form `fresh`; runs of the other three are
+# in disk_forms.py.
 TODAY = Built(
-    forms=frozenset({"fresh"}),
+    forms=frozenset({"fresh", "format", "check", "show"}),
     verbs=frozenset({"begin", "get", "stat", "put", "del", "commit", "abort", "lead"}),
 )
 
@@ -618,7 +619,8 @@ class Outcome(NamedTuple):
 
 
 def run(words: list, script: bytes, opens: bool = True, built: Built = TODAY) -> Outcome:
-    """One run over these words and this script. `opens`: the system lets the file be made."""
+    """One run over these words, which are a form `fresh` or no form at all, and this script.
+    `opens`: the system lets the file be made."""
     form = read_form(words, built)
     if form is None:
         said = [Said("faulty words", ("usage",))]

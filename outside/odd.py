@@ -197,8 +197,8 @@ EDGE_NUMBERS = [
 ]
 
 ODD_FORMS = [
-    [b"format", b"s", b"1", b"1"], [b"steps", b"s"], [b"drill", b"s", b"1", b"1"], [b"check", b"s"],
-    [b"show", b"s"], [b"many", b"s"], [b"Fresh", b"s", b"1", b"1"], [b"fres", b"s", b"1", b"1"],
+    [b"format", b"s", b"1"], [b"steps", b"s"], [b"drill", b"s", b"1", b"1"], [b"check", b"s", b"1"],
+    [b"show"], [b"many", b"s"], [b"Fresh", b"s", b"1", b"1"], [b"fres", b"s", b"1", b"1"],
     [b"freshs", b"s", b"1", b"1"], [b"", b"s", b"1", b"1"], [b"--help"], [b"-h"], [b"help"], [b"--version"],
     [b"s", b"fresh", b"1", b"1"], [b"fresh", b"1", b"1", b"s"], [b"--", b"fresh", b"s", b"1", b"1"],
     [b" fresh", b"s", b"1", b"1"], [b"fresh ", b"s", b"1", b"1"], [b"fresh", b"s", b"1", b"1", b"--help"],

@@ -2,9 +2,11 @@
 
     python3 outside/run.py PROGRAM N [SEED]
     python3 outside/run.py PROGRAM N --random
+    python3 outside/run.py PROGRAM --disks N [SEED | --random]
 
 Runs the N random cases of the seeds SEED, SEED + 1, and so on. At the end it counts what the
-random cases showed; a run of many must show all that there is.
+random cases showed; a run of many must show all that there is. `--disks`: cases of the forms that
+format, show and check a disk, by disk_run.py; else cases of scripts.
 """
 
 import os
@@ -20,64 +22,14 @@ sys.dont_write_bytecode = True  # nothing is left beside this file
 
 import cases
 import counts
+import disk_run
 import model
 import worked
+from compare import file_difference, first_difference
 
 FIRST_SEED = 1_000_000
 LONGEST_RUN = 300  # seconds
 MANY = 500  # random cases, which must show every kind of answer
-CHUNK_PAGES = 256
-ZEROS = bytes(model.PAGE)
-
-
-def first_difference(found: bytes, wanted: bytes) -> str:
-    """Where two texts part, with a piece of the line of each."""
-    shorter = min(len(found), len(wanted))
-    at = next((i for i in range(shorter) if found[i] != wanted[i]), shorter)
-    line = wanted.count(b"\n", 0, at) + 1
-    start = max(wanted.rfind(b"\n", 0, at) + 1, at - 60)
-    pieces = [text[start : start + 160].split(b"\n")[0] or b"(nothing)" for text in (found, wanted)]
-    return f"line {line}, byte {at}\n    found:  {pieces[0]!r}\n    wanted: {pieces[1]!r}"
-
-
-def written_chunks(file, length: int) -> set:
-    """The chunks of a file that aren't holes. A hole reads as zeros."""
-    width = CHUNK_PAGES * model.PAGE
-    found = set()
-    at = 0
-    while at < length:
-        try:
-            at = os.lseek(file, at, os.SEEK_DATA)
-        except OSError:
-            break  # there is no data from here on
-        end = os.lseek(file, at, os.SEEK_HOLE)
-        found.update(range(at // width, (end - 1) // width + 1))
-        at = end
-    return found
-
-
-def file_difference(path: Path, length: int, pages: dict) -> str:
-    """The first byte of the file that isn't the wanted one, or nothing. All pages that aren't
-    named must be zeros."""
-    if not path.is_file():
-        return "there is none"
-    if path.stat().st_size != length:
-        return f"length\n    found:  {path.stat().st_size}\n    wanted: {length}"
-    file = os.open(path, os.O_RDONLY)
-    try:
-        chunks = written_chunks(file, length) | {page // CHUNK_PAGES for page in pages}
-        for chunk in sorted(chunks):
-            numbers = range(chunk * CHUNK_PAGES, min((chunk + 1) * CHUNK_PAGES, length // model.PAGE))
-            wanted = b"".join(pages.get(page, ZEROS) for page in numbers)
-            found = os.pread(file, len(wanted), numbers[0] * model.PAGE)
-            if found != wanted:
-                at = next(i for i, (a, b) in enumerate(zip(found, wanted)) if a != b)
-                page, byte = numbers[0] + at // model.PAGE, at % model.PAGE
-                pieces = [text[at : at + 16].hex() for text in (found, wanted)]
-                return f"page {page}, byte {byte}\n    found:  {pieces[0]}\n    wanted: {pieces[1]}"
-    finally:
-        os.close(file)
-    return ""
 
 
 def run_program(program: str, case: cases.Case, folder: Path):
@@ -181,11 +133,16 @@ class Run:
 
 
 def main(arguments: list) -> int:
-    read = read_arguments(arguments)
+    of_disks = arguments[1:2] == ["--disks"]
+    read = read_arguments(arguments[:1] + arguments[2:] if of_disks else arguments)
     if read is None or not os.access(read[0], os.X_OK):
-        print("python3 run.py PROGRAM N [SEED | --random]", file=sys.stderr)
+        print("python3 run.py PROGRAM [--disks] N [SEED | --random]", file=sys.stderr)
         return 2
-    program, count, first = read
+    return disk_run.compare(*read) if of_disks else compare(*read)
+
+
+def compare(program: str, count: int, first: int) -> int:
+    """Compares over all worked cases and so many random ones. The exit status."""
     print(f"{len(worked.WORKED)} worked cases, then {count} from seed {first}")
     with tempfile.TemporaryDirectory(prefix="outside-") as made:
         run = Run(program, Path(made))

@@ -10,5 +10,5 @@ mod page;
 pub use faults::{IoFault, OutOfMemory, StoreRefusal};
 pub use key::{BadKey, Key};
 pub use key_list::KeyList;
-pub use lists::{Bytes, Bytes64, Keys, Listed, Names, Owned, Word};
+pub use lists::{Bytes, Bytes64, Keys, Listed, Names, Numbers, Owned, Word};
 pub use page::PAGE_BYTES;

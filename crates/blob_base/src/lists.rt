@@ -39,6 +39,9 @@ pub type Names = Listed<Bytes>;
 /// Numbers of 64 bits.
 pub type Bytes64 = Listed<u64>;
 
+/// Numbers of entries.
+pub type Numbers = Listed<u64>;
+
 /// Extents as head and tier, counted in pages of the data area; a tail page has tier 0.
 pub type Owned = Listed<(u32, u32)>;
 

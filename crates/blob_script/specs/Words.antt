@@ -1,5 +1,5 @@
 -- The types of words and lines as the values that the definitions speak of.
-use Rattle.std.specs.Prelude.{◌≡◌, ◌<◌, ⊤, Option, Some, None}
+use Rattle.std.specs.Prelude.{◌≡◌, ◌<◌, ℕ, ⊤, List, Option, Some, None, decimal}
 use Rattle.blob_script.specs.declared.form.Form.{Form}
 use Rattle.blob_script.specs.declared.form.Form.TheVariants as form
 use Rattle.blob_script.specs.declared.action.Action.{Action}
@@ -10,12 +10,26 @@ use Rattle.blob_script.specs.declared.step.StepFault.{StepFault}
 use Rattle.blob_script.specs.declared.step.StepFault.TheVariants as fault
 use Rattle.blob_script.specs.Contents.{content_bytes}
 use Rattle.store_model.specs.Form as words
+use Rattle.store_model.specs.Layout.{IsLayout, Layout}
 use Rattle.store_model.specs.Turn as turn
 use Rattle.store_model.specs.Script as model
 
+-- the layout of so many units and so much room
+abbrev pub layout_by : ℕ → ℕ → Layout
+layout_by some_units some_room = record { units = some_units; room = some_room }
+
+-- two words spell the numbers of a layout
+pub record SpellLayout (one two : List ℕ) (layout : Layout) : Type 0 where
+  pub within : IsLayout layout
+  pub units_are : one ≡ decimal layout.units
+  pub room_is : two ≡ decimal layout.room
+
 -- the form that the definitions speak of
 abbrev pub model_form : Form → words.Form
-model_form (form.Fresh units room) = words.Fresh (record { units = units; room = room })
+model_form (form.Format units room) = words.Format (layout_by units room)
+model_form (form.Fresh units room) = words.Fresh (layout_by units room)
+model_form form.Show = words.Show
+model_form form.Check = words.Check
 
 abbrev pub model_action : Action → model.Action
 model_action action.Begin = model.Transact turn.Begin

@@ -7,10 +7,11 @@ ghost use Rattle.hex.specs.Hex.{encode_lower};
 ghost use Rattle.store_model.specs.Answer.{line_end, two_numbers};
 ghost use Rattle.store_model.specs.Closing.{Damaged, exit_status, closing_text, reason_text, refusal_text};
 
+use crate::line::{
+    MAX_LINE, line_of, line_with_number, line_with_two, push_number, push_text, push_value,
+};
 use arrayvec::ArrayVec;
 use blob_base::{Key, StoreRefusal};
-
-const MAX_CLOSING: usize = 256;
 
 /// How a run ended.
 #[derive(Debug, Drop, PartialEq, Eq)]
@@ -94,7 +95,7 @@ impl Status {
 }
 
 // The line of a disk that isn't opened as a store.
-fn refusal_line(why: &StoreRefusal) -> ArrayVec<u8, MAX_CLOSING>
+fn refusal_line(why: &StoreRefusal) -> ArrayVec<u8, MAX_LINE>
     ensures { result.items ≡ codes "store refused: " ++ refusal_text (refusal_of why.now) ++ line_end }
 {
     match why {
@@ -129,7 +130,7 @@ fn refusal_line(why: &StoreRefusal) -> ArrayVec<u8, MAX_CLOSING>
 }
 
 // The line of a key whose content isn't what its state keeps.
-fn damaged_line(key: &Key, link: u32, want: &[u8; 32], got: &[u8; 32]) -> ArrayVec<u8, MAX_CLOSING>
+fn damaged_line(key: &Key, link: u32, want: &[u8; 32], got: &[u8; 32]) -> ArrayVec<u8, MAX_LINE>
     ensures { result.items ≡ reason_text (Damaged key.now link want.now got.now) ++ line_end }
 {
     let mut line = ArrayVec::new();
@@ -143,72 +144,4 @@ fn damaged_line(key: &Key, link: u32, want: &[u8; 32], got: &[u8; 32]) -> ArrayV
     push_value(&mut line, got);
     push_text(&mut line, b"\n");
     line
-}
-
-// Puts a value in hexadecimal behind what is there.
-fn push_value(line: &mut ArrayVec<u8, MAX_CLOSING>, value: &[u8; 32])
-    requires { length line.old.items + 64 ≤ 256 }
-    ensures text { line.new.items ≡ line.old.items ++ encode_lower value.now }
-    ensures len { length line.new.items ≡ length line.old.items + 64 }
-{
-    let mut digits = [0; 64];
-    let _ = hex::encode_to_slice(value, &mut digits);
-    push_text(line, &digits);
-}
-
-// A text as a line.
-fn line_of(text: &[u8]) -> ArrayVec<u8, MAX_CLOSING>
-    requires { length text.now ≤ 100 }
-    ensures { result.items ≡ text.now ++ line_end }
-{
-    let mut line = ArrayVec::new();
-    push_text(&mut line, text);
-    push_text(&mut line, b"\n");
-    line
-}
-
-// A label and a number as a line.
-fn line_with_number(label: &[u8], number: u64) -> ArrayVec<u8, MAX_CLOSING>
-    requires { length label.now ≤ 100 }
-    ensures { result.items ≡ label.now ++ decimal number ++ line_end }
-{
-    let mut line = ArrayVec::new();
-    push_text(&mut line, label);
-    push_number(&mut line, number);
-    push_text(&mut line, b"\n");
-    line
-}
-
-// A label and two numbers as a line.
-fn line_with_two(label: &[u8], first: u64, second: u64) -> ArrayVec<u8, MAX_CLOSING>
-    requires { length label.now ≤ 100 }
-    ensures { result.items ≡ label.now ++ two_numbers first second ++ line_end }
-{
-    let mut line = ArrayVec::new();
-    push_text(&mut line, label);
-    push_number(&mut line, first);
-    push_text(&mut line, b" ");
-    push_number(&mut line, second);
-    push_text(&mut line, b"\n");
-    line
-}
-
-// Puts a text behind what is there.
-fn push_text(line: &mut ArrayVec<u8, MAX_CLOSING>, text: &[u8])
-    requires { length line.old.items + length text.now ≤ 256 }
-    ensures text { line.new.items ≡ line.old.items ++ text.now }
-    ensures len { length line.new.items ≡ length line.old.items + length text.now }
-{
-    for byte in text {
-        line.push(*byte);
-    }
-}
-
-// Puts a number behind what is there.
-fn push_number(line: &mut ArrayVec<u8, MAX_CLOSING>, number: u64)
-    requires { length line.old.items + 20 ≤ 256 }
-    ensures text { line.new.items ≡ line.old.items ++ decimal number }
-    ensures len { length line.new.items ≤ length line.old.items + 20 }
-{
-    push_text(line, itoa::Buffer::new().format(number).as_bytes());
 }

@@ -60,9 +60,14 @@ fn run_over<D: Disk + Drop>(rt: &HostRuntime, words: &[Word], disk: D) -> Status
     status
 }
 
-// Runs the words over a new file of so many pages, and answers the exit status.
-fn run_fresh(rt: &HostRuntime, words: &[Word], path: &str, pages: u32) -> u8 {
-    match FileDisk::create(rt, path, pages) {
+// Runs the words over the disk that the file of that path is, where the system opened it, and answers the exit status.
+fn run_opened<D: Disk + Drop>(
+    rt: &HostRuntime,
+    words: &[Word],
+    path: &str,
+    opened: Result<D, OpenFailed>,
+) -> u8 {
+    match opened {
         Ok(disk) => run_over(rt, words, disk).code(),
         Err(OpenFailed::Refused) => {
             let _ = eprintln!(rt; "cannot open {path}");
@@ -82,13 +87,17 @@ fn turn_away(rt: &HostRuntime, words: &[Word]) -> Result<u8, OutOfMemory> {
     Ok(status.code())
 }
 
-// Runs the command line, and answers the exit status. A file is made before a run, of the size that the form asks for: that is
-// all that is read of the words here. The run reads them too, since it is what answers for them, over any disk.
+// Runs the command line, and answers the exit status. A form that makes a store gets a new file, of the size that its layout
+// takes, and any other the file that is there: that is all that is read of the words here. The run reads them too, since it
+// is what answers for them, over any disk.
 fn run(rt: &HostRuntime) -> Result<u8, OutOfMemory> {
     let words = words_of(rt)?;
     let words = words.as_slice();
     match (Form::read(words), path_of(words)) {
-        (Some(form), Some(path)) => Ok(run_fresh(rt, words, path, layout_of(form).total())),
+        (Some(form), Some(path)) => Ok(match layout_of(form) {
+            Some(layout) => run_opened(rt, words, path, FileDisk::create(rt, path, layout.total())),
+            None => run_opened(rt, words, path, FileDisk::open(rt, path)),
+        }),
         _ => turn_away(rt, words),
     }
 }

@@ -1,51 +1,74 @@
--- The words of a command line, one by one.
-use Rattle.std.proofs.Common.{◌≡◌, ◌≢◌, ◌==◌, ℕ, ◌^◌, ◌<◌, ◌≤◌, List, [], ◌∷◌, length, get_or, decimal, false, arith, codes, refl, sym}
+-- The words of a command line are one form.
+use Rattle.std.proofs.Common.{◌≡◌, ℕ, List, true, false, bytes_eq, decimal, arith, codes, refl, sym, ◌∙◌, ap}
+use Rattle.std.proofs.lemmas.Slice.Eq.{bytes_eq-Decides}
 use Rattle.std.proofs.lemmas.Fmt.{decimal_injective}
-use Rattle.store_model.specs.Form.{Form, Fresh, IsForm, IsFresh, IsNoForm}
-use Rattle.store_model.specs.Layout.{Layout}
-use Rattle.blob_steps.specs.Runs.{layout_of}
+use Rattle.store_model.specs.Form.{Check, Form, Format, Fresh, IsForm, IsOfFile, IsOfLayout, Show}
+use Rattle.store_model.specs.Layout.{IsLayout, Layout}
 
--- the four words of which a command line consists
-pub four_words : (words : List (List ℕ)) (one two three four : List ℕ) → 4 ≤ length words → length words < 5
-    → one ≡ get_or words 0 one → two ≡ get_or words 1 two → three ≡ get_or words 2 three → four ≡ get_or words 3 four → words ≡ one ∷ two ∷ three ∷ four ∷ []
-four_words [] one two three four least most a b c d = absurd (omega arith)
-four_words (w ∷ []) one two three four least most a b c d = absurd (omega arith)
-four_words (w ∷ x ∷ []) one two three four least most a b c d = absurd (omega arith)
-four_words (w ∷ x ∷ y ∷ []) one two three four least most a b c d = absurd (omega arith)
-four_words (w ∷ x ∷ y ∷ z ∷ []) one two three four least most a b c d = cc
-four_words (w ∷ x ∷ y ∷ z ∷ v ∷ more) one two three four least most a b c d = absurd (omega arith)
-
--- a word that isn't empty
-pub named : (file : List ℕ) → (length file == 0) ≡ false → file ≢ []
-named [] e = λ _. cc
-named (byte ∷ bytes) e = λ none. cc
-
--- the layout whose numbers the words spell
-pub layout_is : (words : List (List ℕ)) (verb file one two : List ℕ) (units room : ℕ) (layout : Layout) → words ≡ verb ∷ file ∷ one ∷ two ∷ [] → one ≡ decimal units → two ≡ decimal room
-    → units < 2 ^ 32 → room < 2 ^ 32 → IsFresh words layout → (layout.units ≡ units) × (layout.room ≡ room)
-layout_is words verb file one two units room layout are one_is two_is few_units little_room fresh =
-    let written = fresh.words_are in
-    let within = fresh.within in
-    let same_units : decimal layout.units ≡ decimal units = cc in
-    let same_room : decimal layout.room ≡ decimal room = cc in (
-      decimal_injective layout.units units (omega (arith, within.most_units)) (omega arith) same_units,
-      decimal_injective layout.room room (omega (arith, within.most_room)) (omega arith) same_room,
-    )
-
--- the words of a form have one layout
-pub same_layout : (words : List (List ℕ)) (one two : Layout) → IsFresh words one → IsFresh words two → one ≡ two
-same_layout words one two first second =
-    let within = first.within in
-    let same = layout_is words (codes "fresh") first.file (decimal one.units) (decimal one.room) one.units one.room two first.words_are refl refl
-    (omega (arith, within.most_units)) (omega (arith, within.most_room)) second in
-    let units : one.units ≡ two.units = sym same.0 in
-    let room : one.room ≡ two.room = sym same.1 in
+-- two layouts whose numbers are spelled alike
+layout-one : (one two : Layout) → IsLayout one → IsLayout two → decimal one.units ≡ decimal two.units → decimal one.room ≡ decimal two.room → one ≡ two
+layout-one one two first second same_units same_room =
+    let units : one.units ≡ two.units =
+    decimal_injective one.units two.units (omega (arith, first.most_units)) (omega (arith, second.most_units)) same_units in
+    let room : one.room ≡ two.room =
+    decimal_injective one.room two.room (omega (arith, first.most_room)) (omega (arith, second.most_room)) same_room in
     λ i. record { units = units i; room = room i }
 
--- words that are no layout's are no form
-pub no_form : (words : List (List ℕ)) → ((layout : Layout) → IsFresh words layout → ⊥) → IsNoForm words
-no_form words none (Fresh layout) is = none layout is
+-- words have one verb
+verb-one : (verb other : List ℕ) (words rest more : List (List ℕ)) → IsOfFile verb words rest → IsOfFile other words more → verb ≡ other
+verb-one verb other words rest more one two =
+    let mine = one.words_are in
+    let yours = two.words_are in
+    cc
 
--- the words have one form
-pub same_form : (words : List (List ℕ)) (one two : Form) → IsForm words one → IsForm words two → layout_of one ≡ layout_of two
-same_form words (Fresh one) (Fresh two) first second = same_layout words one two first second
+-- words with a layout have one
+of_layout-one : (verb : List ℕ) (words : List (List ℕ)) (one two : Layout) → IsOfLayout verb words one → IsOfLayout verb words two → one ≡ two
+of_layout-one verb words one two first second =
+    let mine = first.file.words_are in
+    let yours = second.file.words_are in
+    let units : decimal one.units ≡ decimal two.units = cc in
+    let room : decimal one.room ≡ decimal two.room = cc in
+    layout-one one two first.within second.within units room
+
+true-not_false : true ≡ false → ⊥
+true-not_false same = cc
+
+format-not_fresh : codes "format" ≡ codes "fresh" → ⊥
+format-not_fresh same = cc
+
+format-not_show : codes "format" ≡ codes "show" → ⊥
+format-not_show same = cc
+
+format-not_check : codes "format" ≡ codes "check" → ⊥
+format-not_check same = cc
+
+fresh-not_show : codes "fresh" ≡ codes "show" → ⊥
+fresh-not_show same = cc
+
+fresh-not_check : codes "fresh" ≡ codes "check" → ⊥
+fresh-not_check same =
+    let alike : bytes_eq (codes "fresh") (codes "check") ≡ true = (bytes_eq-Decides (codes "fresh") (codes "check")).1 same in
+    let unlike : bytes_eq (codes "fresh") (codes "check") ≡ false = refl in
+    true-not_false (sym alike ∙ unlike)
+
+show-not_check : codes "show" ≡ codes "check" → ⊥
+show-not_check same = cc
+
+-- words are one form
+pub form-one : (words : List (List ℕ)) (one two : Form) → IsForm words one → IsForm words two → one ≡ two
+form-one words (Format one) (Format two) first second = ap Format (of_layout-one (codes "format") words one two first second)
+form-one words (Fresh one) (Fresh two) first second = ap Fresh (of_layout-one (codes "fresh") words one two first second)
+form-one words Show Show first second = λ i. Show
+form-one words Check Check first second = λ i. Check
+form-one words (Format one) (Fresh two) first second = absurd (format-not_fresh (verb-one _ _ words _ _ first.file second.file))
+form-one words (Fresh one) (Format two) first second = absurd (format-not_fresh (verb-one _ _ words _ _ second.file first.file))
+form-one words (Format one) Show first second = absurd (format-not_show (verb-one _ _ words _ _ first.file second))
+form-one words Show (Format two) first second = absurd (format-not_show (verb-one _ _ words _ _ second.file first))
+form-one words (Format one) Check first second = absurd (format-not_check (verb-one _ _ words _ _ first.file second))
+form-one words Check (Format two) first second = absurd (format-not_check (verb-one _ _ words _ _ second.file first))
+form-one words (Fresh one) Show first second = absurd (fresh-not_show (verb-one _ _ words _ _ first.file second))
+form-one words Show (Fresh two) first second = absurd (fresh-not_show (verb-one _ _ words _ _ second.file first))
+form-one words (Fresh one) Check first second = absurd (fresh-not_check (verb-one _ _ words _ _ first.file second))
+form-one words Check (Fresh two) first second = absurd (fresh-not_check (verb-one _ _ words _ _ second.file first))
+form-one words Show Check first second = absurd (show-not_check (verb-one _ _ words _ _ first second))
+form-one words Check Show first second = absurd (show-not_check (verb-one _ _ words _ _ second first))

@@ -1,4 +1,5 @@
 pub mod OnTheWay
+pub mod Closings
 pub mod Splitting
 pub mod CommandWords
 pub mod Doing

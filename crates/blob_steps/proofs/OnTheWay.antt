@@ -1,16 +1,12 @@
 -- A run on the way, and its ends.
-use Rattle.std.proofs.Common.{◌≡◌, ℕ, ◌+◌, ◌≤◌, ◌⊎◌, inl, inr, Bool, false, IsTrue, List, [], ◌∷◌, ◌++◌, length, min, take, drop, Option, Some, None, refl, sym, ◌∙◌, ap, subst, arith, append_assoc, append-nil, Result, Ok, Err, OnOk, OnErr, IfErr}
+use Rattle.std.proofs.Common.{◌≡◌, ℕ, ◌+◌, ◌≤◌, inl, inr, Bool, IsTrue, List, [], ◌∷◌, ◌++◌, length, min, Option, Some, None, refl, sym, ◌∙◌, ap, subst, arith, append_assoc, append-nil}
 use Rattle.std.specs.List.{flat_map, sum_by}
 use Rattle.std.proofs.lemmas.Grind.{flat_map-append}
-use Rattle.std.proofs.lemmas.List.{take-append-drop}
 use Rattle.std.proofs.lemmas.List.Sums.{sum_by-append, sum_by-cons}
 use Rattle.std.specs.Io.KnownBytes.{Appends, prepend_known}
 use Rattle.std.proofs.KnownBytes.{Appends-trans, Appends-nil}
-use Rattle.blob_base.specs.Faults.{CameFrom, Rose}
-use Rattle.blob_base.proofs.FaultLaws.{KeepsEnd-none, KeepsEnd-then, Rose-since}
-use Rattle.disk_model.proofs.DiskLaws.{Keeps-none, Keeps-then}
-use Rattle.io_ends.specs.declared.traits.Source as source_trait
-use Rattle.io_ends.specs.declared.traits.Sink as sink_trait
+use Rattle.blob_base.specs.Faults.{CameFrom}
+use Rattle.blob_report.specs.Ends.{EndsPrinting, TookFront}
 use Rattle.blob_base.specs.declared.faults.IoFault.{IoFault}
 use Rattle.blob_base.specs.declared.faults.IoFault.TheVariants.{Failed, OutOfMemory}
 use Rattle.disk_model.specs.declared.disk.Disk.{Ghosts}
@@ -19,17 +15,15 @@ use Rattle.blob_script.specs.declared.status.Status.TheVariants as status
 use Rattle.blob_steps.specs.declared.world.World.{World}
 use Rattle.blob_steps.specs.declared.line.LineFault.{LineFault}
 use Rattle.blob_steps.specs.declared.line.LineFault.TheVariants as fault
-use Rattle.blob_script.specs.Endings.{ending_of}
-use Rattle.blob_steps.specs.Going.{BadLine, EndsPrinting, EndsReading, EndsStep, Going, PlaysOn, TakesLine, after_lines, playing, reading_ending, step_ending}
+use Rattle.blob_steps.specs.Going.{BadLine, EndsReading, EndsStep, Going, PlaysOn, TakesLine, after_lines, playing, reading_ending, step_ending}
 use Rattle.blob_steps.specs.Nexts.{IsUnbuilt}
 use Rattle.blob_steps.specs.Lines.{LineTaken, NoLine}
-use Rattle.blob_steps.specs.Runs.{Closed, Ended, IsUndamaged, KeepsEnds, MayCut, OnPlayed, PagesAre, Ran, ShowsDamage, TookFront}
+use Rattle.blob_steps.specs.Runs.{Ended, IsUndamaged, MayCut, OnPlayed, PagesAre, Ran, ShowsDamage}
 use Rattle.blob_steps.specs.Steps.{CameTo, HaveBegun, WorldStands}
 use Rattle.blob_store.specs.Stores.{Did}
 use Rattle.blob_store.specs.Faults.{ShowsDamageFault}
 use Rattle.blob_store.specs.declared.fault.StoreFault.{StoreFault}
 use Rattle.blob_store.specs.declared.fault.StoreFault.TheVariants as store_fault
-use Rattle.store_model.specs.Closing.{closing_text}
 use Rattle.store_model.specs.Cost.{Spent, content_pages, syncs_of}
 use Rattle.store_model.specs.Disk.{Calls}
 use Rattle.store_model.specs.World as model
@@ -236,17 +230,17 @@ module _ {D : Type 0} (g : Ghosts D) (start : Store) (mine later : World) (numbe
       }
 
   -- the sink took a front of what the lines print with that of the step
-  TookFront-cut : (more : Option (List ℕ)) (gone : ℕ) → IsTrue g.tells → Appends taken more (take gone text) → TookFront old more (text_of lines_with)
-  TookFront-cut more gone told took =
+  TookFront-cut : (more : Option (List ℕ)) → IsTrue g.tells → TookFront taken more text → TookFront old more (text_of lines_with)
+  TookFront-cut more told cut =
       let line : PlayedLine = played_line outcome in
       record {
-        text = text_of going.lines ++ take gone text;
-        took = Appends-trans old taken more (text_of going.lines) (take gone text) (going.took told) took;
+        text = text_of going.lines ++ cut.text;
+        took = Appends-trans old taken more (text_of going.lines) cut.text (going.took told) cut.took;
         front = record {
-          rest = drop gone text;
+          rest = cut.front.rest;
           whole_is = text_of-push going.lines line
-              ∙ ap (λ t. text_of going.lines ++ t) (sym (text-now told) ∙ sym (take-append-drop gone text))
-              ∙ sym (append_assoc (text_of going.lines) (take gone text) (drop gone text));
+              ∙ ap (λ t. text_of going.lines ++ t) (sym (text-now told) ∙ cut.front.whole_is)
+              ∙ sym (append_assoc (text_of going.lines) cut.text cut.front.rest);
         };
       }
 
@@ -257,17 +251,17 @@ module _ {D : Type 0} (g : Ghosts D) (start : Store) (mine later : World) (numbe
       (PlaysOn-front later.store.layout start lines_with (number + 1) outcome.world first rest plays-later script known)
 
   -- a run that ends with this status in the printing of the step's answer
-  cut-short : (one : Status) (more : Option (List ℕ)) (gone : ℕ) (frugal : Bool) → Appends taken more (take gone text) → MayCut one frugal
+  cut-short : (one : Status) (more : Option (List ℕ)) (frugal : Bool) → TookFront taken more text → MayCut one frugal
       → (IsTrue g.tells → OnPlayed one (PagesAre g mine.store.layout start lines_with was newer))
       → (IsTrue g.tells → OnPlayed one (Spent lines_with (g.calls was) (g.calls newer)))
       → ((script : List ℕ) → first ≡ Some script → Ran one lines_with (play mine.store.layout start script))
       → ShowsDamage one (store_behind start lines_with).objects → (IsTrue g.tells → IsUndamaged one)
       → Ended g mine.store.layout start frugal first old more was newer one
-  cut-short one more gone frugal took may pages counts ran damage whole = record {
+  cut-short one more frugal cut may pages counts ran damage whole = record {
     lines = lines_with;
     ran = ran;
-    grew = (going.grew.0 ++ take gone text, Appends-trans old taken more going.grew.0 (take gone text) going.grew.1 took);
-    took = λ told. inr (may, TookFront-cut more gone told took);
+    grew = (going.grew.0 ++ cut.text, Appends-trans old taken more going.grew.0 cut.text going.grew.1 cut.took);
+    took = λ told. inr (may, TookFront-cut more told cut);
     pages = pages;
     counts = counts;
     damage = damage;
@@ -275,20 +269,20 @@ module _ {D : Type 0} (g : Ghosts D) (start : Store) (mine later : World) (numbe
   }
 
   -- the printing of the step's answer failed
-  pub Ended-printing : (one : Status) (more : Option (List ℕ)) (gone : ℕ) (frugal : Bool) (before since : ℕ) → Appends taken more (take gone text)
+  pub Ended-printing : (one : Status) (more : Option (List ℕ)) (frugal : Bool) (before since : ℕ) → TookFront taken more text
       → EndsPrinting one frugal before since → Ended g mine.store.layout start frugal first old more was newer one
-  Ended-printing status.WriteFault more gone frugal before since took ends = cut-short status.WriteFault more gone frugal took tt (λ told. tt) (λ told. tt)
+  Ended-printing status.WriteFault more frugal before since cut ends = cut-short status.WriteFault more frugal cut tt (λ told. tt) (λ told. tt)
       (lines-front mine.store.layout (sym same)) tt (λ told. tt)
-  Ended-printing status.OutOfMemory more gone frugal before since took ends = cut-short status.OutOfMemory more gone frugal took ends (λ told. tt) (λ told. tt)
+  Ended-printing status.OutOfMemory more frugal before since cut ends = cut-short status.OutOfMemory more frugal cut ends (λ told. tt) (λ told. tt)
       (lines-front mine.store.layout (sym same)) tt (λ told. tt)
-  Ended-printing (status.Malformed line) more gone frugal before since took ends = absurd ends
-  Ended-printing (status.NotBuilt line) more gone frugal before since took ends = absurd ends
-  Ended-printing status.ReadFault more gone frugal before since took ends = absurd ends
-  Ended-printing status.Done more gone frugal before since took ends = absurd ends
-  Ended-printing status.DiskFault more gone frugal before since took ends = absurd ends
-  Ended-printing (status.Refused why) more gone frugal before since took ends = absurd ends
-  Ended-printing status.Usage more gone frugal before since took ends = absurd ends
-  Ended-printing (status.Damaged key link want got) more gone frugal before since took ends = absurd ends
+  Ended-printing (status.Malformed line) more frugal before since cut ends = absurd ends
+  Ended-printing (status.NotBuilt line) more frugal before since cut ends = absurd ends
+  Ended-printing status.ReadFault more frugal before since cut ends = absurd ends
+  Ended-printing status.Done more frugal before since cut ends = absurd ends
+  Ended-printing status.DiskFault more frugal before since cut ends = absurd ends
+  Ended-printing (status.Refused why) more frugal before since cut ends = absurd ends
+  Ended-printing status.Usage more frugal before since cut ends = absurd ends
+  Ended-printing (status.Damaged key link want got) more frugal before since cut ends = absurd ends
 
 -- a run that ends where it is, before or at the end of its script
 module _ {D : Type 0} (g : Ghosts D) (start : Store) (mine : World) (number : ℕ) (first left old taken : Option (List ℕ)) (was now : D)
@@ -446,53 +440,6 @@ Going-first g mine first taken disk stands = record {
   plays_on = λ script known. (script, known, refl);
 }
 
-closing_whole : (one : Status) (frugal : Bool) (before now : ℕ) → EndsPrinting one frugal before now → Rose before now ⊎ (frugal ≡ false)
-closing_whole status.WriteFault frugal before now ends = inl ends
-closing_whole status.OutOfMemory frugal before now ends = inr ends
-closing_whole (status.Malformed line) frugal before now ends = absurd ends
-closing_whole (status.NotBuilt line) frugal before now ends = absurd ends
-closing_whole status.ReadFault frugal before now ends = absurd ends
-closing_whole status.Done frugal before now ends = absurd ends
-closing_whole status.DiskFault frugal before now ends = absurd ends
-closing_whole (status.Refused why) frugal before now ends = absurd ends
-closing_whole status.Usage frugal before now ends = absurd ends
-closing_whole (status.Damaged key link want got) frugal before now ends = absurd ends
-
-either_way : {A B C : Type 0} → B ⊎ C → A ⊎ B ⊎ C
-either_way e = inr e
-
--- the reasons for a closing line cut short, since an earlier count
-since_earlier : {A : Type 0} (first before now : ℕ) (was frugal : Bool) → first ≤ before → frugal ≡ was → A ⊎ Rose before now ⊎ (frugal ≡ false) → A ⊎ Rose first now ⊎ (was ≡ false)
-since_earlier first before now was frugal later same (inl whole) = inl whole
-since_earlier first before now was frugal later same (inr (inl rose)) = inr (inl (Rose-since first before now later rose))
-since_earlier first before now was frugal later same (inr (inr none)) = inr (inr (sym same ∙ none))
-
--- the closing line, however its printing went
-pub Closed-printed : (one : Status) (frugal : Bool) (before now : ℕ) (old new : Option (List ℕ)) (text : List ℕ) (printed : Result (Unit {0}) Status)
-    → text ≡ closing_text (ending_of one) → OnOk printed (Appends old new text) → OnErr printed ((gone : ℕ) × Appends old new (take gone text))
-    → IfErr printed (λ s. EndsPrinting s frugal before now) → Closed one frugal before now old new
-Closed-printed one frugal before now old new text (Ok x) is ok front ends = record {
-  line = text;
-  took = ok;
-  front = record { rest = []; whole_is = sym is ∙ sym (append-nil text) };
-  whole = inl is;
-}
-Closed-printed one frugal before now old new text (Err s) is ok front ends = record {
-  line = take front.0 text;
-  took = front.1;
-  front = record { rest = drop front.0 text; whole_is = sym is ∙ sym (take-append-drop front.0 text) };
-  whole = either_way (closing_whole s frugal before now ends);
-}
-
--- the same since an earlier count
-pub Closed-since : (one : Status) (was frugal : Bool) (first before now : ℕ) (old new : Option (List ℕ)) → first ≤ before → frugal ≡ was → Closed one frugal before now old new → Closed one was first now old new
-Closed-since one was frugal first before now old new later same closed = record {
-  line = closed.line;
-  took = closed.took;
-  front = closed.front;
-  whole = since_earlier first before now was frugal later same closed.whole;
-}
-
 -- a run that found no memory before its first line
 pub Ended-unbegun : {D : Type 0} (g : Ghosts D) (layout : Layout) (start : Store) (frugal : Bool) (script taken : Option (List ℕ)) (disk : D)
     → Ended g layout start frugal script taken taken disk disk status.OutOfMemory
@@ -511,20 +458,3 @@ Ended-unbegun g layout start frugal script taken disk = record {
 pub prepend-none : (ahead : List ℕ) (left : Option (List ℕ)) → ahead ≡ [] → left ≡ prepend_known ahead left
 prepend-none ahead None none = refl
 prepend-none ahead (Some script) none = ap (λ front. Some (front ++ script)) (sym none)
-
--- what the ends keep, where none was called, and from one call to the next
-module _ {S K D : Type 0} (source : source_trait.Ghosts S) (sink : sink_trait.Ghosts K) (disk : Ghosts D) where
-  pub KeepsEnds-none : (from : S) (to : K) (on : D) → KeepsEnds source sink disk from to on from to on
-  KeepsEnds-none from to on = record {
-    of_source = KeepsEnd-none source.faults source.frugal from;
-    of_sink = KeepsEnd-none sink.faults sink.frugal to;
-    of_disk = Keeps-none disk on;
-  }
-
-  pub KeepsEnds-then : (from from_mid from_new : S) (to to_mid to_new : K) (on on_mid on_new : D) → KeepsEnds source sink disk from to on from_mid to_mid on_mid
-      → KeepsEnds source sink disk from_mid to_mid on_mid from_new to_new on_new → KeepsEnds source sink disk from to on from_new to_new on_new
-  KeepsEnds-then from from_mid from_new to to_mid to_new on on_mid on_new one other = record {
-    of_source = KeepsEnd-then source.faults source.frugal from from_mid from_new one.of_source other.of_source;
-    of_sink = KeepsEnd-then sink.faults sink.frugal to to_mid to_new one.of_sink other.of_sink;
-    of_disk = Keeps-then disk on on_mid on_new one.of_disk other.of_disk;
-  }

@@ -1,5 +1,5 @@
 -- A run on the way, in the words of the definitions.
-use Rattle.std.specs.Prelude.{◌≡◌, ℕ, ⊤, Bool, false, IsTrue, List, ◌∷◌, ◌++◌, Option, Some, None}
+use Rattle.std.specs.Prelude.{◌≡◌, ℕ, ⊤, IsTrue, List, ◌∷◌, ◌++◌, Option, Some, None}
 use Rattle.std.specs.Io.KnownBytes.{Appends}
 use Rattle.blob_base.specs.Faults.{Rose}
 use Rattle.blob_base.specs.declared.faults.IoFault.TheVariants.{Failed, OutOfMemory}
@@ -73,12 +73,6 @@ EndsStep (status.NotBuilt line) before now = ⊤
 EndsStep status.OutOfMemory before now = ⊤
 EndsStep (status.Damaged key link want got) before now = ⊤
 EndsStep _ before now = ⊥
-
--- what ends the printing of an answer, other than well
-abbrev pub EndsPrinting : Status → Bool → ℕ → ℕ → Type 0
-EndsPrinting status.WriteFault frugal before now = Rose before now
-EndsPrinting status.OutOfMemory frugal before now = frugal ≡ false
-EndsPrinting _ frugal before now = ⊥
 
 -- what a step without an answer ends a run with
 abbrev pub step_ending : StoreFault → Status

@@ -1,10 +1,9 @@
--- Whole runs, in the words of the definitions.
-use Rattle.std.specs.Prelude.{◌≡◌, ℕ, ◌<◌, ◌⊎◌, ◌↔◌, ⊤, Bool, false, IsTrue, List, ◌++◌, Option, Some}
+-- Runs of scripts, and what runs leave their ends with, in the words of the definitions.
+use Rattle.std.specs.Prelude.{◌≡◌, ℕ, ◌⊎◌, ⊤, Bool, false, IsTrue, List, ◌++◌, Option, Some}
 use Rattle.std.specs.FinMap.{FinMap}
 use Rattle.std.specs.Io.KnownBytes.{Appends}
 use Rattle.blob_base.specs.Faults.{KeepsEnd, Rose}
-use Rattle.blob_base.specs.declared.faults.StoreRefusal.{StoreRefusal}
-use Rattle.blob_base.specs.declared.faults.StoreRefusal.TheVariants.{TooSmall}
+use Rattle.blob_report.specs.Ends.{IsFront, TookFront}
 use Rattle.disk_model.specs.Disks.{Keeps}
 use Rattle.disk_model.specs.declared.disk.Disk as disk_trait
 use Rattle.io_ends.specs.declared.traits.Source as source_trait
@@ -14,14 +13,13 @@ use Rattle.blob_script.specs.declared.status.Status.TheVariants as status
 use Rattle.blob_script.specs.Endings.{ending_of}
 use Rattle.store_model.specs.Closing.{closing_text}
 use Rattle.store_model.specs.Cost.{Spent}
-use Rattle.store_model.specs.Form.{Form, Fresh, IsForm, IsNoForm}
 use Rattle.store_model.specs.Images.{Wrote}
 use Rattle.store_model.specs.Key.{key_order}
-use Rattle.store_model.specs.Layout.{Layout, total_pages}
+use Rattle.store_model.specs.Layout.{Layout}
 use Rattle.store_model.specs.Play.{AtInputEnd, AtMalformed, AtUnbuilt, Played, PlayedLine, play, store_behind, taken_in, text_of}
 use Rattle.store_model.specs.Space.{IsOwnedPage}
 use Rattle.store_model.specs.Standing.{AllStand, IsDamaged}
-use Rattle.store_model.specs.Store.{Object, Store, empty_store}
+use Rattle.store_model.specs.Store.{Object, Store}
 
 -- how often each of the three ends has failed
 pub record Counts : Type 0 where
@@ -46,12 +44,6 @@ abbrev pub IsUndamaged : Status → Type 0
 IsUndamaged (status.Damaged key link want got) = ⊥
 IsUndamaged _ = ⊤
 
--- a status with which no script was run
-abbrev pub IsTurnedAway : Status → Type 0
-IsTurnedAway (status.Refused why) = ⊤
-IsTurnedAway status.Usage = ⊤
-IsTurnedAway _ = ⊥
-
 -- a status with which a script was run to its end
 abbrev pub OnPlayed : Status → Type 0 → Type 0
 OnPlayed status.Done P = P
@@ -66,23 +58,12 @@ Ran (status.Malformed line) lines whole = (lines ≡ whole.lines) × (whole.end 
 Ran (status.NotBuilt line) lines whole = (lines ≡ whole.lines) × (whole.end ≡ AtUnbuilt line)
 Ran _ lines whole = (rest : List PlayedLine) × (whole.lines ≡ lines ++ rest)
 
--- `front` is the front of `whole`
-pub record IsFront (front whole : List ℕ) : Type 0 where
-  pub rest : List ℕ
-  pub whole_is : whole ≡ front ++ rest
-
 -- The statuses after which the last line that the sink took may be cut short: its own fault, and want of memory of a
 -- sink that isn't frugal.
 abbrev pub MayCut : Status → Bool → Type 0
 MayCut status.WriteFault frugal = ⊤
 MayCut status.OutOfMemory frugal = frugal ≡ false
 MayCut _ frugal = ⊥
-
--- the sink took a front of this text
-pub record TookFront (old new : Option (List ℕ)) (whole : List ℕ) : Type 0 where
-  pub text : List ℕ
-  pub took : Appends old new text
-  pub front : IsFront text whole
 
 -- The sink took what the lines print, or a front of that where the status may cut it short.
 abbrev pub TookLines : Status → Bool → Option (List ℕ) → Option (List ℕ) → List PlayedLine → Type 0
@@ -106,17 +87,6 @@ pub record PagesAre {D : Type 0} (g : disk_trait.Ghosts D) (layout : Layout) (st
   pub objects : AllStand (g.story new).reads layout (store_behind start lines).objects
   pub others : Wrote (IsOwnedPage layout (taken_in lines)) (g.story old) (g.story new)
 
--- the layout of a form's store
-abbrev pub layout_of : Form → Layout
-layout_of (Fresh layout) = layout
-
--- the disk has too few pages for the layout that the words give
-pub record IsTooSmall (words : List (List ℕ)) (size : ℕ) (why : StoreRefusal) : Type 0 where
-  pub form : Form
-  pub words_are : IsForm words form
-  pub small : size < total_pages (layout_of form)
-  pub why_is : why ≡ TooSmall (total_pages (layout_of form)) size
-
 -- what each of the three ends keeps
 pub record KeepsEnds {S K D : Type 0} (source : source_trait.Ghosts S) (sink : sink_trait.Ghosts K) (disk : disk_trait.Ghosts D)
     (source_old : S) (sink_old : K) (disk_old : D) (source_new : S) (sink_new : K) (disk_new : D) : Type 0 where
@@ -139,35 +109,3 @@ pub record Ended {D : Type 0} (g : disk_trait.Ghosts D) (layout : Layout) (start
   pub counts : IsTrue g.tells → OnPlayed status (Spent lines (g.calls was) (g.calls now))
   pub damage : ShowsDamage status (store_behind start lines).objects
   pub whole : IsTrue g.tells → IsUndamaged status
-
--- The run of the form that the words are ended so, where the disk is large enough; nothing was run else.
-abbrev pub EndedBy : List (List ℕ) → (Layout → Type 0) → Status → Type 0
-EndedBy words P status = (IsTurnedAway status) ⊎ ((form : Form) × IsForm words form × P (layout_of form))
-
--- The run of a command line over three ends: how it ended, and how it left them.
-pub record Run {S K D : Type 0} (source : source_trait.Ghosts S) (sink : sink_trait.Ghosts K) (disk : disk_trait.Ghosts D) (words : List (List ℕ))
-    (source_old : S) (sink_old : K) (disk_old : D) (how : Status) (source_new : S) (sink_new : K) (disk_new : D) : Type 0 where
-  -- Usage exactly where the words are no form, and Refused exactly where the layout exceeds the disk, with both numbers
-  pub usage : (how ≡ status.Usage) ↔ IsNoForm words
-  pub refused : (why : StoreRefusal) → (how ≡ status.Refused why) ↔ IsTooSmall words (disk.size disk_old) why
-  -- the lines of the script that were run, and what the sink tells to have taken before the closing line
-  pub lines : List PlayedLine
-  pub printed : Option (List ℕ)
-  pub grew : Grew (sink.taken sink_old) printed
-  -- after Usage and Refused the source and the disk are as they were, and nothing was printed
-  pub alone : IsTurnedAway how → (source_new ≡ source_old) × (disk_new ≡ disk_old) × (printed ≡ sink.taken sink_old)
-  -- of a known script: all lines up to its end, or the first ones
-  pub script : (form : Form) → IsForm words form → (script : List ℕ) → source.left source_old ≡ Some script
-      → Ran how lines (play (layout_of form) empty_store script)
-  -- what the sink took, over a disk that tells its pages: what these lines print, and then the closing line
-  pub text : IsTrue disk.tells → TookLines how (sink.frugal sink_old) (sink.taken sink_old) printed lines
-  pub closing : Closed how (sink.frugal sink_old) (sink.faults sink_old) (sink.faults sink_new) printed (sink.taken sink_new)
-  -- what the disk has, and what it has done
-  pub pages : (form : Form) → IsForm words form → IsTrue disk.tells → OnPlayed how (PagesAre disk (layout_of form) empty_store lines disk_old disk_new)
-  pub counts : IsTrue disk.tells → OnPlayed how (Spent lines (disk.calls disk_old) (disk.calls disk_new))
-  -- a fault and damage have their causes, and over a disk that tells its pages there is no damage
-  pub faults : IsRaised how (counts_of source sink disk source_old sink_old disk_old) (counts_of source sink disk source_new sink_new disk_new)
-  pub damage : ShowsDamage how (store_behind empty_store lines).objects
-  pub whole : IsTrue disk.tells → IsUndamaged how
-  -- no count of faults fell, the disk has its size, and each end is as frugal as it was
-  pub keeps : KeepsEnds source sink disk source_old sink_old disk_old source_new sink_new disk_new

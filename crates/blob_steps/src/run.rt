@@ -1,30 +1,29 @@
-// The run of a command line over a source, a sink and a disk.
+// The run of a script over a source, a sink and a disk.
 
 ghost use Rattle.std.specs.Prelude.{◌≡◌, ◌≢◌, ◌⊎◌, ◌↔◌, ◌<◌, ◌≤◌, ◌++◌, ◌+◌, ◌^◌, ℕ, [], List, Option, Some, None, Ok, Err, take, length, OnOk, OnErr, IfOk, IfErr, IfSome, MatchBool, MatchOption, MatchResult, IsTrue, true, false};
 ghost use Rattle.std.specs.Io.KnownBytes.{prepend_known, Appends};
 ghost use Rattle.blob_base.specs.Faults.{KeepsEnd};
-ghost use Rattle.blob_base.specs.declared.faults.StoreRefusal.{StoreRefusal};
 ghost use Rattle.blob_base.specs.declared.faults.StoreRefusal.TheVariants.{TooSmall};
 ghost use Rattle.disk_model.specs.Disks.{Keeps};
-ghost use Rattle.store_model.specs.Form.{IsForm, IsNoForm};
 ghost use Rattle.store_model.specs.Layout.{total_pages};
 ghost use Rattle.store_model.specs.Script.{line_at};
 ghost use Rattle.store_model.specs.World.{World as ModelWorld, world_over};
 ghost use Rattle.store_model.specs.Standing.{AllStand};
 ghost use Rattle.store_model.specs.Store.{Store as ModelStore, empty_store};
-ghost use Rattle.blob_script.specs.Words.{IsSession, model_form, model_step};
+ghost use Rattle.blob_script.specs.Words.{IsSession, model_step};
 ghost use Rattle.blob_steps.specs.Steps.{DoesPlay, HaveBegun, IsWorld, WorldStands};
-ghost use Rattle.blob_steps.specs.Runs.{Closed, Ended, EndedBy, IsRaised, IsTooSmall, IsTurnedAway, IsUndamaged, KeepsEnds, Run as WholeRun, ShowsDamage, counts_of, layout_of};
-ghost use Rattle.blob_steps.specs.Going.{EndsPrinting, EndsReading, EndsStep, Going, IsAccepted, IsRunning, reading_ending, step_ending};
+ghost use Rattle.blob_steps.specs.Runs.{Ended, IsRaised, IsUndamaged, KeepsEnds, ShowsDamage, counts_of};
+ghost use Rattle.blob_steps.specs.Going.{EndsReading, EndsStep, Going, IsAccepted, IsRunning, reading_ending, step_ending};
 ghost use Rattle.blob_steps.specs.Nexts.{HasSession, IsLine, IsNext, IsUnbuilt, TellsLine, next_line};
 
 use crate::line::{Found, LineFault, LineReader};
 use crate::world::{Played, World};
-use blob_base::{Bytes, IoFault, OutOfMemory, StoreRefusal, Word};
-use blob_script::{Form, Status, Step, StepFault};
+use blob_base::{Bytes, IoFault, OutOfMemory, StoreRefusal};
+use blob_report::print;
+use blob_script::{Status, Step, StepFault};
 use blob_store::StoreFault;
 use disk_model::{Disk, Layout};
-use io_ends::{Sink, Source, put_all};
+use io_ends::{Sink, Source};
 use std::alloc::Global;
 
 // How many lines a script may have.
@@ -45,23 +44,6 @@ enum Next {
     Step { step: Step },
     Skipped,
     End,
-}
-
-// Prints a text.
-fn print<K: Sink>(sink: &mut K, text: &[u8]) -> Result<(), Status>
-    ensures ok { OnOk result (Appends (K.taken sink.old) (K.taken sink.new) text.now) }
-    ensures front { OnErr result ((gone : ℕ) × Appends (K.taken sink.old) (K.taken sink.new) (take gone text.now)) }
-    ensures ends { IfErr result (λ status.
-        EndsPrinting status (K.frugal sink.old) (K.faults sink.old) (K.faults sink.new)) }
-    ensures keeps { KeepsEnd K.faults K.frugal sink.old sink.new }
-{
-    match put_all(sink, text) {
-        Ok(()) => Ok(()),
-        Err(fault) => Err(match fault.cause {
-            IoFault::Failed => Status::WriteFault,
-            IoFault::OutOfMemory => Status::OutOfMemory,
-        }),
-    }
 }
 
 impl Run {
@@ -268,8 +250,8 @@ fn run_script<S: Source, K: Sink, D: Disk>(
     unreachable!()
 }
 
-// Runs a script over an empty store of this layout, where the disk is large enough.
-fn fresh<S: Source, K: Sink, D: Disk>(
+/// Runs a script over an empty store of this layout, where the disk is large enough.
+pub(crate) fn fresh<S: Source, K: Sink, D: Disk>(
     alloc: Global,
     layout: Layout,
     source: &mut S,
@@ -302,66 +284,4 @@ fn fresh<S: Source, K: Sink, D: Disk>(
         Ok(()) => Status::Done,
         Err(status) => status,
     }
-}
-
-/// The layout that a form of a command line asks for.
-pub fn layout_of(form: Form) -> Layout
-    requires { (words : List (List ℕ)) × IsForm words (model_form form) }
-    ensures { result ≡ layout_of (model_form form) }
-{
-    match form {
-        Form::Fresh { units, room } => Layout { units, room },
-    }
-}
-
-// Runs what the words ask for, up to the closing line.
-fn run_words<S: Source, K: Sink, D: Disk>(
-    alloc: Global,
-    words: &[Word],
-    source: &mut S,
-    sink: &mut K,
-    disk: &mut D,
-) -> Status
-    ensures usage { (result ≡ Status.Usage) ↔ IsNoForm words.now }
-    ensures refused { (why : StoreRefusal) → (result ≡ Status.Refused why) ↔ IsTooSmall words.now (D.size disk.old) why }
-    ensures alone { IsTurnedAway result → (source.new ≡ source.old) × (sink.new ≡ sink.old) × (disk.new ≡ disk.old) }
-    ensures ended { EndedBy words.now (λ layout. Ended D.Disk layout empty_store (K.frugal sink.old) (S.left source.old)
-        (K.taken sink.old) (K.taken sink.new) disk.old disk.new result) result }
-    ensures raised { IsRaised result
-        (counts_of S.Source K.Sink D.Disk source.old sink.old disk.old)
-        (counts_of S.Source K.Sink D.Disk source.new sink.new disk.new) }
-    ensures keeps { KeepsEnds S.Source K.Sink D.Disk source.old sink.old disk.old source.new sink.new disk.new }
-{
-    match Form::read(words) {
-        Some(form) => fresh(alloc, layout_of(form), source, sink, disk),
-        None => Status::Usage,
-    }
-}
-
-// Writes the closing line, where the sink takes it.
-fn close<K: Sink>(sink: &mut K, status: &Status)
-    ensures closed { Closed status.now (K.frugal sink.old) (K.faults sink.old) (K.faults sink.new) (K.taken sink.old) (K.taken sink.new) }
-    ensures keeps { KeepsEnd K.faults K.frugal sink.old sink.new }
-{
-    let _ = print(sink, status.closing().as_slice());
-}
-
-/// Runs a command line: its words, the script that a source gives, the sink of its answers and the disk of its store.
-/// It answers how the run ended, and the disk.
-///
-/// The one form of words is `fresh FILE UNITS ROOM`, which formats a store of UNITS times 1024 data pages and ROOM pages
-/// for the states of a half, and answers a script line by line. FILE isn't looked at: the caller has opened the disk.
-/// After a status other than `Done` one closing line is written where the sink takes it.
-pub fn run_alone<S: Source, K: Sink, D: Disk>(
-    alloc: Global,
-    words: &[Word],
-    source: &mut S,
-    sink: &mut K,
-    mut disk: D,
-) -> (Status, D)
-    ensures { WholeRun S.Source K.Sink D.Disk words.now source.old sink.old disk result.0 source.new sink.new result.1 }
-{
-    let status = run_words(alloc, words, source, sink, &mut disk);
-    close(sink, &status);
-    (status, disk)
 }

@@ -34,7 +34,7 @@ is_nil-none : {X : Type 0} (xs : List X) → length xs ≡ 0 → is_nil xs ≡ t
 is_nil-none [] none = refl
 is_nil-none (x ∷ xs) none = absurd (omega (arith, none))
 
-nil-there : (bodies : List Body) (i : ℕ) → i < length bodies → (i + 1 == length bodies) ≡ is_nil (stored (drop (i + 1) bodies))
+pub nil-there : (bodies : List Body) (i : ℕ) → i < length bodies → (i + 1 == length bodies) ≡ is_nil (stored (drop (i + 1) bodies))
 nil-there bodies i less =
     let long : length (stored (drop (i + 1) bodies)) ≡ length bodies - (i + 1) = length-map (drop (i + 1) bodies) stored_body ∙ length-drop (i + 1) bodies in
     elim (cases_lt (i + 1) (length bodies)) [

@@ -7,6 +7,7 @@ pub mod Storing
 pub mod Takings
 pub mod Bodies
 pub mod Followings
+pub mod Droppings
 pub mod Settings
 pub mod LogTakings
 pub mod Owned

@@ -1,16 +1,18 @@
 -- What opening finds, and what it writes.
-use Rattle.std.proofs.Common.{◌≡◌, ℕ, zero, suc, ◌<◌, inl, inr, List, sym, subst, ◌∙◌, arith}
+use Rattle.std.proofs.Common.{◌≡◌, ℕ, zero, suc, ◌<◌, inl, inr, List, [], ◌++◌, sym, ap, subst, ◌∙◌, arith}
 use Rattle.std.specs.Prelude.{IsTrue}
 use Rattle.blob_base.specs.declared.faults.StoreRefusal.TheVariants as refusal
 use Rattle.disk_model.specs.Disks.{OnlyReads, OnlyWrites}
 use Rattle.disk_model.specs.declared.disk.Disk.{Ghosts}
 use Rattle.disk_model.proofs.DiskLaws.{Keeps-then, OnlyWrites-more, OnlyWrites-none, OnlyWrites-reads}
 use Rattle.recover.specs.Faults.{IsOfLog, IsOfSpace, IsRead}
+use Rattle.recover.specs.Frames.{Adds}
 use Rattle.recover.specs.Openings.{IsMetadata}
 use Rattle.recover.specs.Turns.{IsTurnPage}
 use Rattle.recover.specs.declared.fault.RecoverFault.{RecoverFault}
 use Rattle.recover.specs.declared.fault.RecoverFault.TheVariants as fault
 use Rattle.store_model.specs.Disk.{Image}
+use Rattle.store_model.specs.Drops.{AreDroppedLast, Drops}
 use Rattle.store_model.specs.Half.{picked}
 use Rattle.store_model.specs.HalfRefusals.{FindsHalf}
 use Rattle.store_model.specs.Layout.{Layout, data_page}
@@ -56,7 +58,20 @@ Gives-found pages image half before after bodies gate picks finds has takes = re
   takes = takes;
 }
 
--- and so is that of pages that are owned twice
+-- and what they drop, where none was told before
+pub Drops-found : (pages : ℕ) (image : Image) (half : ℕ) (before : Found) (bodies : List StoredBody) (gate : ℕ) (old new : List ℕ) → half ≡ picked (image 0)
+    → FindsHalf pages image half before.layout before.last before.states → HasBodies image half bodies gate → old ≡ [] → Adds (AreDroppedLast image before.layout) bodies old new
+    → Drops pages image new
+Drops-found pages image half before bodies gate old new picks finds has none adds = record {
+  start = before;
+  finds = subst (λ (h : ℕ). FindsHalf pages image h before.layout before.last before.states) picks finds;
+  bodies = bodies;
+  gate = gate;
+  log = subst (λ (h : ℕ). HasBodies image h bodies gate) picks has;
+  dropped = subst (λ (numbers : List ℕ). AreDroppedLast image before.layout bodies numbers) (sym (adds.2 ∙ ap (λ (xs : List ℕ). xs ++ adds.0) none)) adds.1;
+}
+
+-- a refusal for pages that are owned twice is the reading of the disk
 pub space-read : (pages : ℕ) (image : Image) (found : Found) (why : RecoverFault) → Gives pages image found → IsOfSpace (blocks_of_states found.states) why → IsRead pages image why
 space-read pages image found (fault.Refused (refusal.OwnedTwice page)) gives twice = (found, (gives, twice))
 space-read pages image found (fault.Refused (refusal.TooSmall need have)) gives twice = absurd twice

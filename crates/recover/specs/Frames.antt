@@ -1,5 +1,5 @@
 -- What is held while a log is read, in the words of the definitions.
-use Rattle.std.specs.Prelude.{ℕ, ◌*◌, ◌≡◌, ◌≤◌, ◌⊎◌, Bool, true, false, List, Some}
+use Rattle.std.specs.Prelude.{ℕ, ◌*◌, ◌≡◌, ◌≤◌, ◌⊎◌, Bool, true, false, List, [], ◌++◌, Some}
 use Rattle.std.specs.List.{All}
 use Rattle.std.specs.FinMap.{FinMap, get}
 use Rattle.frame_codec.specs.Values.{model_entry}
@@ -7,6 +7,7 @@ use Rattle.frame_codec.specs.declared.entry.Entry.{Entry}
 use Rattle.recover.specs.declared.frames.Held.{Held}
 use Rattle.relation.specs.Changes.{with_entry}
 use Rattle.store_model.specs.Disk.{Image}
+use Rattle.store_model.specs.Drops.{AreDropped, AreDroppedLast}
 use Rattle.store_model.specs.Frame as model
 use Rattle.store_model.specs.Frame.{IsWrite}
 use Rattle.store_model.specs.Half.{IsHalf}
@@ -53,3 +54,17 @@ greatest_growth = 16 * 4717
 abbrev pub KeptBehind : Bool → Image → Layout → List StoredBody → List model.Entry → List model.Entry → Type 0
 KeptBehind true image layout bodies = KeptIn image layout bodies
 KeptBehind false image layout bodies = AreAllKept
+
+-- the numbers of what is dropped of the entries of a frame: of the last one those that don't verify, and of any other none
+abbrev pub DroppedBy : Bool → Image → Layout → List model.Entry → List ℕ → Type 0
+DroppedBy true image layout = AreDropped image layout
+DroppedBy false image layout = λ entries numbers. numbers ≡ []
+
+-- those of what is dropped of bodies: of the last one before a closed gate, and of none before an open one without a body
+abbrev pub DroppedBehind : Bool → Image → Layout → List StoredBody → List ℕ → Type 0
+DroppedBehind true image layout = AreDroppedLast image layout
+DroppedBehind false image layout = λ bodies numbers. numbers ≡ []
+
+-- The numbers of what is dropped of these are told behind those that were told before.
+abbrev pub Adds : {X : Type 0} → (List X → List ℕ → Type 0) → List X → List ℕ → List ℕ → Type 0
+Adds Dropped these old new = (numbers : List ℕ) × Dropped these numbers × (new ≡ old ++ numbers)

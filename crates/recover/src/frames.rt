@@ -1,76 +1,39 @@
 // The bodies of a log, taken behind the states of its half.
 
-ghost use Rattle.std.specs.Prelude.{◌≡◌, ℕ, ◌+◌, ◌^◌, ◌<◌, ◌≤◌, Bool, false, List, length, map, IfErr, IfOk, IfSome, IsErrOf, IfNone, OnOk, OnSome, IsTrue};
+ghost use Rattle.std.specs.Prelude.{◌≡◌, ℕ, ◌+◌, ◌^◌, ◌<◌, ◌≤◌, false, List, [], ◌∷◌, length, IfErr, IfOk, IfSome, IsErrOf, IfNone, OnOk, OnSome, IsTrue};
 ghost use Rattle.std.specs.List.{All};
 ghost use Rattle.blob_base.specs.Faults.{Rose};
 ghost use Rattle.blob_base.specs.declared.faults.IoFault.TheVariants.{Failed};
-ghost use Rattle.disk_model.specs.Disks.{Caused, OnlyReads};
-ghost use Rattle.frame_codec.specs.Values.{model_entries, model_entry, model_write};
+ghost use Rattle.disk_model.specs.Disks.{OnlyReads};
+ghost use Rattle.frame_codec.specs.Values.{model_entries, model_entry};
 ghost use Rattle.meta_log.specs.Reads.{stored, stored_body};
 ghost use Rattle.recover.specs.Faults.{CameFrom, IsFirstBadFault, IsOfLog};
-ghost use Rattle.recover.specs.Frames.{AreStored, IsMade, IsSound, IsUpTo, KeptBehind, KeptBy, greatest_growth, held_of};
+ghost use Rattle.recover.specs.Frames.{Adds, AreStored, DroppedBehind, DroppedBy, IsMade, IsSound, IsUpTo, KeptBehind, KeptBy, greatest_growth, held_of};
 ghost use Rattle.relation.specs.Changes.{bytes_limit};
 ghost use Rattle.relation.specs.Parts.{encoded_by};
-ghost use Rattle.store_model.specs.Frame.{IsWrite};
+ghost use Rattle.store_model.specs.Drops.{AreDroppedLast};
 ghost use Rattle.store_model.specs.Frame as model;
 ghost use Rattle.store_model.specs.Layout.{data_pages, total_pages};
 ghost use Rattle.store_model.specs.LogReading.{HasBodies, StoredBody};
-ghost use Rattle.store_model.specs.Reading.{DoesWriteVerify, GoesOn, IsBadFrame, KeptIn, Takes, TakesEach, last_number, with_entries};
+ghost use Rattle.store_model.specs.Reading.{GoesOn, IsBadFrame, KeptIn, Takes, TakesEach, last_number, with_entries};
 ghost use Rattle.store_model.specs.State.{greatest_number};
 
 use crate::fault::RecoverFault;
-use blob_base::{IoFault, StoreRefusal};
+use crate::verifying::verifies;
+use blob_base::{IoFault, Numbers, StoreRefusal};
 use disk_model::{Disk, Layout};
-use extent_io::{Verdict, verify};
-use frame_codec::{Entries, Entry, FrameFault, MAX_WRITES, Write, Writes, decode_frame};
+use frame_codec::{Entries, Entry, FrameFault, MAX_WRITES, decode_frame};
 use meta_log::{Body, BodyList, Log, ReadFault};
 use relation::{Relation, apply};
 use std::alloc::Global;
 
-/// The states that were read so far, and the number of the last entry.
+/// The states that were read so far, the number of the last entry, and those of the entries that were dropped.
 #[derive(Drop)]
 pub(crate) struct Held {
     pub layout: Layout,
     pub last: u64,
     pub relation: Relation,
-}
-
-// Whether the state verifies that a write sets.
-fn write_verifies<D: Disk>(disk: &mut D, layout: Layout, one: &Write) -> Result<bool, IoFault>
-    requires disk { total_pages layout ≤ D.size disk.old }
-    requires write { (number : ℕ) × IsWrite (data_pages layout) number (model_write one.now) }
-    ensures verifies { IsTrue D.tells → IfOk result (λ is. IsTrue is → DoesWriteVerify (D.story disk.old).reads layout (model_write one.now)) }
-    ensures fails { IsTrue D.tells → IfOk result (λ is. is ≡ false → DoesWriteVerify (D.story disk.old).reads layout (model_write one.now) → ⊥) }
-    ensures only { OnlyReads D.Disk disk.old disk.new }
-    ensures cause { Caused D.Disk disk.old disk.new result }
-{
-    match one {
-        Write::Set { state, .. } => match verify(disk, layout, state)? {
-            Verdict::Whole => Ok(true),
-            Verdict::Damaged { .. } => Ok(false),
-        },
-        Write::Del { .. } => Ok(true),
-    }
-}
-
-// Whether all the states verify that writes set.
-fn verifies<D: Disk>(disk: &mut D, layout: Layout, writes: &Writes) -> Result<bool, IoFault>
-    requires disk { total_pages layout ≤ D.size disk.old }
-    requires writes { (number : ℕ) × All (IsWrite (data_pages layout) number) (map model_write writes.now) }
-    ensures verifies { IsTrue D.tells → IfOk result (λ is. IsTrue is
-        → All (DoesWriteVerify (D.story disk.old).reads layout) (map model_write writes.now)) }
-    ensures fails { IsTrue D.tells → IfOk result (λ is. is ≡ false
-        → All (DoesWriteVerify (D.story disk.old).reads layout) (map model_write writes.now) → ⊥) }
-    ensures only { OnlyReads D.Disk disk.old disk.new }
-    ensures cause { Caused D.Disk disk.old disk.new result }
-{
-    'verified: for i in 0..writes.len() {
-        let does_verify = write_verifies(disk, layout, writes.get(i))?;
-        if !does_verify {
-            return Ok(false);
-        }
-    }
-    Ok(true)
+    pub dropped: Numbers,
 }
 
 // The number of the last of some entries, where they go on behind this one.
@@ -89,7 +52,8 @@ fn last_behind(last: u64, entries: &Entries) -> Option<u64>
 }
 
 impl Held {
-    // Makes the writes of an entry. One of the last frame is dropped where not all states verify that it sets.
+    // Makes the writes of an entry. One of the last frame is dropped where not all states verify that it sets, and its number
+    // is told.
     fn take_entry<D: Disk>(
         &mut self,
         alloc: Global,
@@ -103,6 +67,8 @@ impl Held {
         requires bytes { encoded_by self.old.relation.states ≤ bytes_limit }
         ensures made { IsTrue D.tells → OnOk result
             (IsMade (D.story disk.old).reads self.old.layout is_last entry self.old.relation.states self.new.relation.states) }
+        ensures dropped { IsTrue D.tells → OnOk result
+            (Adds (DroppedBy is_last (D.story disk.old).reads self.old.layout) (model_entry entry ∷ []) self.old.dropped self.new.dropped) }
         ensures stored { OnOk result (AreStored (data_pages self.old.layout) self.old.last self.new.relation.states) }
         ensures bytes { OnOk result (encoded_by self.new.relation.states ≤ encoded_by self.old.relation.states + greatest_growth) }
         ensures layout { self.new.layout ≡ self.old.layout }
@@ -113,6 +79,7 @@ impl Held {
         if is_last {
             let does_verify = verifies(disk, self.layout, &entry.writes)?;
             if !does_verify {
+                self.dropped.push(alloc, entry.number)?;
                 return Ok(());
             }
         }
@@ -137,6 +104,8 @@ impl Held {
         ensures kept { IsTrue D.tells → OnOk result
             ((kept : List model.Entry) × KeptBy is_last (D.story disk.old).reads self.old.layout (model_entries entries) kept
             × (self.new.relation.states ≡ with_entries self.old.relation.states kept)) }
+        ensures dropped { IsTrue D.tells → OnOk result
+            (Adds (DroppedBy is_last (D.story disk.old).reads self.old.layout) (model_entries entries) self.old.dropped self.new.dropped) }
         ensures stored { OnOk result (AreStored (data_pages self.old.layout) self.old.last self.new.relation.states) }
         ensures layout { self.new.layout ≡ self.old.layout }
         ensures last { self.new.last ≡ self.old.last }
@@ -164,6 +133,8 @@ impl Held {
             → Takes (KeptBy is_last (D.story disk.old).reads self.old.layout) (held_of self.old) (stored_body body.now) (held_of self.new)) }
         ensures bad { IsTrue D.tells → IfOk result (λ taken. taken ≡ false
             → IsBadFrame (KeptBy is_last (D.story disk.old).reads self.old.layout) (held_of self.old) (stored_body body.now)) }
+        ensures dropped { IsTrue D.tells → IfOk result (λ taken. IsTrue taken
+            → Adds (DroppedBehind is_last (D.story disk.old).reads self.old.layout) (stored_body body.now ∷ []) self.old.dropped self.new.dropped) }
         ensures sound { IfOk result (λ taken. IsTrue taken → IsSound self.new) }
         ensures layout { self.new.layout ≡ self.old.layout }
         ensures only { OnlyReads D.Disk disk.old disk.new }
@@ -197,6 +168,8 @@ impl Held {
             (TakesEach (KeptBehind is_closed (D.story disk.old).reads self.old.layout) (held_of self.old) (stored bodies.now) (held_of self.new)) }
         ensures bad { IsTrue D.tells → IfErr result
             (IsFirstBadFault half (KeptBehind is_closed (D.story disk.old).reads self.old.layout) (held_of self.old) (stored bodies.now)) }
+        ensures dropped { IsTrue D.tells → OnOk result
+            (Adds (DroppedBehind is_closed (D.story disk.old).reads self.old.layout) (stored bodies.now) self.old.dropped self.new.dropped) }
         ensures sound { OnOk result (IsSound self.new) }
         ensures layout { self.new.layout ≡ self.old.layout }
         ensures only { OnlyReads D.Disk disk.old disk.new }
@@ -230,6 +203,9 @@ impl Held {
             ((bodies : List StoredBody) × ((gate : ℕ) × (HasBodies (D.story disk.old).reads half bodies gate
             × TakesEach (KeptIn (D.story disk.old).reads self.old.layout) (held_of self.old) bodies (held_of self.new)))) }
         ensures refused { IsTrue D.tells → IfErr result (IsOfLog (D.story disk.old).reads half (held_of self.old)) }
+        ensures dropped { IsTrue D.tells → OnOk result
+            ((bodies : List StoredBody) × ((gate : ℕ) × (HasBodies (D.story disk.old).reads half bodies gate
+            × Adds (AreDroppedLast (D.story disk.old).reads self.old.layout) bodies self.old.dropped self.new.dropped))) }
         ensures sound { OnOk result (IsSound self.new) }
         ensures layout { self.new.layout ≡ self.old.layout }
         ensures only { OnlyReads D.Disk disk.old disk.new }

@@ -7,6 +7,7 @@ mod frames;
 mod opening;
 mod start;
 mod turning;
+mod verifying;
 
 pub use fault::RecoverFault;
 pub use formatting::format;

@@ -1,12 +1,13 @@
 // The opening of a disk.
 
-ghost use Rattle.std.specs.Prelude.{◌≡◌, ℕ, ◌<◌, ◌≤◌, Err, IfErr, IfOk, IsTrue, OnOk};
+ghost use Rattle.std.specs.Prelude.{◌≡◌, ℕ, ◌<◌, ◌≤◌, [], Err, IfErr, IfOk, IsTrue, OnOk};
 ghost use Rattle.blob_base.specs.declared.faults.StoreRefusal.{StoreRefusal as Why};
 ghost use Rattle.disk_model.specs.Disks.{OnlyReads, OnlyWrites};
 ghost use Rattle.recover.specs.Faults.{CameFrom, IsOfHalf, IsOfSpace, IsRead};
 ghost use Rattle.recover.specs.Frames.{IsSound};
 ghost use Rattle.recover.specs.Openings.{IsFound, IsMetadata, found_of};
 ghost use Rattle.recover.specs.declared.fault.RecoverFault.TheVariants.{Refused};
+ghost use Rattle.store_model.specs.Drops.{Drops};
 ghost use Rattle.store_model.specs.Half.{IsHalf};
 ghost use Rattle.store_model.specs.HalfRefusals.{FindsHalf};
 ghost use Rattle.store_model.specs.Layout.{total_pages};
@@ -17,7 +18,7 @@ use crate::fault::{RecoverFault, of_half};
 use crate::frames::Held;
 use crate::start::relation_of;
 use crate::turning::turn;
-use blob_base::StoreRefusal;
+use blob_base::{Numbers, StoreRefusal};
 use check_point::{pick, read_half};
 use disk_model::{Disk, Layout};
 use extent_alloc::{BuildFault, Space};
@@ -28,12 +29,14 @@ use std::alloc::Global;
 // How many pages the smallest store takes.
 const LEAST_PAGES: u32 = 2053;
 
-/// A store that was opened: its layout, the number of its last entry, its states, and its log, which has no bodies.
+/// A store that was opened: its layout, the number of its last entry, its states, the numbers of the entries of the log's last
+/// frame that were dropped, in their order, and its log, which has no bodies.
 #[derive(Drop)]
 pub struct Found {
     pub layout: Layout,
     pub last: u64,
     pub relation: Relation,
+    pub dropped: Numbers,
     pub log: Log,
 }
 
@@ -44,6 +47,7 @@ fn open_half<D: Disk>(alloc: Global, disk: &mut D, half: u32) -> Result<Held, Re
     ensures found { IsTrue D.tells → IfOk result (λ held.
         FindsHalf (D.size disk.old) (D.story disk.old).reads half held.layout held.last held.relation.states) }
     ensures refused { IsTrue D.tells → IfErr result (IsOfHalf (D.size disk.old) (D.story disk.old).reads half) }
+    ensures none { IfOk result (λ held. held.dropped ≡ []) }
     ensures sound { IfOk result IsSound }
     ensures fits { IfOk result (λ held. total_pages held.layout ≤ D.size disk.old) }
     ensures only { OnlyReads D.Disk disk.old disk.new }
@@ -60,6 +64,7 @@ fn open_half<D: Disk>(alloc: Global, disk: &mut D, half: u32) -> Result<Held, Re
         layout,
         last: found.last,
         relation,
+        dropped: Numbers::new(alloc),
     })
 }
 
@@ -86,6 +91,7 @@ pub fn recover<D: Disk>(alloc: Global, disk: &mut D) -> Result<Found, RecoverFau
         Reads (D.size disk.old) (D.story disk.old).reads (Opened (found_of found))) }
     ensures turned { IsTrue D.tells → IfOk result (λ found.
         Reads (D.size disk.old) (D.story disk.new).reads (Opened (found_of found))) }
+    ensures dropped { IsTrue D.tells → IfOk result (λ found. Drops (D.size disk.old) (D.story disk.old).reads found.dropped) }
     ensures refused { IsTrue D.tells → IfErr result (IsRead (D.size disk.old) (D.story disk.old).reads) }
     ensures untouched { (why : Why) → result ≡ Err (Refused why) → OnlyReads D.Disk disk.old disk.new }
 
@@ -117,6 +123,7 @@ pub fn recover<D: Disk>(alloc: Global, disk: &mut D) -> Result<Found, RecoverFau
         layout: held.layout,
         last: held.last,
         relation: held.relation,
+        dropped: held.dropped,
         log,
     })
 }

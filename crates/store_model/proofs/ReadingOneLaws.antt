@@ -31,12 +31,12 @@ found-is a b layout last states =
       found_with : Layout → ℕ → FinMap key_order State → Found
       found_with l n m = record { layout = l; last = n; states = m }
 
-start-one : (pages : ℕ) (image : Image) (h : ℕ) (a b : Found) → Starts pages image h a → Starts pages image h b → a ≡ b
+pub start-one : (pages : ℕ) (image : Image) (h : ℕ) (a b : Found) → Starts pages image h a → Starts pages image h b → a ≡ b
 start-one pages image h a b one other =
     let same = FindsHalf-one pages image h a.layout b.layout a.last b.last a.states b.states one other in
     found-is a b same.0 same.1 same.2
 
-start-small : (pages : ℕ) (image : Image) (h : ℕ) (found : Found) → Starts pages image h found → IsSmall found
+pub start-small : (pages : ℕ) (image : Image) (h : ℕ) (found : Found) → Starts pages image h found → IsSmall found
 start-small pages image h found starts = omega (arith, starts.spells.half.sound.most_units)
 
 start-fits : (pages : ℕ) (image : Image) (h : ℕ) (found : Found) → Starts pages image h found → least_pages ≤ pages

@@ -36,3 +36,8 @@ pub mod HalfRefusals
 pub mod BodyRefusals
 pub mod LogReading
 pub mod Reading
+pub mod Drops
+pub mod Dependence
+pub mod Report
+pub mod Windows
+pub mod Survival

@@ -18,10 +18,6 @@ mod extents;
 #[cfg(test)]
 mod file;
 #[cfg(test)]
-mod frames;
-#[cfg(test)]
-mod groups;
-#[cfg(test)]
 mod hash;
 #[cfg(test)]
 mod key_lists;
@@ -31,8 +27,6 @@ mod keys;
 mod lists;
 #[cfg(test)]
 mod logs;
-#[cfg(test)]
-mod relations;
 #[cfg(test)]
 mod script_lines;
 #[cfg(test)]
@@ -46,8 +40,4 @@ mod statuses;
 #[cfg(test)]
 mod syncs;
 #[cfg(test)]
-mod transactions;
-#[cfg(test)]
 mod tuples;
-#[cfg(test)]
-mod writes;

@@ -21,6 +21,16 @@ fn words_that_are_no_form(rt: HostRuntime) {
         "fresh s +1 1",
         "fresh s 1 4294967297",
         "Fresh s 1 1",
+        "format",
+        "format s 0 1",
+        "format s 1",
+        "show",
+        "show s s",
+        "show ",
+        "check",
+        "check s 1",
+        "Check s",
+        "steps",
         "steps s",
     ] {
         let trial = Trial {

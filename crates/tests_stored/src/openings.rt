@@ -10,10 +10,10 @@ use std::process::Abort;
 use std::test::Fail;
 
 // It takes 2053 pages.
-const SMALLEST: Layout = Layout { units: 1, room: 1 };
+pub(crate) const SMALLEST: Layout = Layout { units: 1, room: 1 };
 
 // A page that begins with these bytes, and has zeros behind them.
-fn page_of<R: Abort>(rt: &R, bytes: &[u8]) -> Page {
+pub(crate) fn page_of<R: Abort>(rt: &R, bytes: &[u8]) -> Page {
     let mut page = [0; PAGE_BYTES];
     assert!(rt; bytes.len() <= PAGE_BYTES);
     page[..bytes.len()].copy_from_slice(bytes);
@@ -21,7 +21,7 @@ fn page_of<R: Abort>(rt: &R, bytes: &[u8]) -> Page {
 }
 
 // A page that begins with these bytes, given by two digits each.
-fn page_of_hex<R: Abort>(rt: &R, digits: &str) -> Page {
+pub(crate) fn page_of_hex<R: Abort>(rt: &R, digits: &str) -> Page {
     let mut page = [0; PAGE_BYTES];
     let count = digits.len() / 2;
     assert!(rt; count <= PAGE_BYTES);
@@ -31,7 +31,7 @@ fn page_of_hex<R: Abort>(rt: &R, digits: &str) -> Page {
 }
 
 // The body of one entry, number 1, that sets `demo/a` to the content `abc` on data page 0.
-fn one_set<R: Abort>(rt: &R) -> Page {
+pub(crate) fn one_set<R: Abort>(rt: &R) -> Page {
     page_of_hex(
         rt,
         "424c4f4246524d31\
@@ -52,7 +52,7 @@ fn one_set<R: Abort>(rt: &R) -> Page {
 }
 
 // A disk that has been formatted, with this body behind its first gate, which is open.
-fn disk_with<R: Abort + AllocGlobal>(rt: &R, body: &Page) -> Result<MemDisk, Fail> {
+pub(crate) fn disk_with<R: Abort + AllocGlobal>(rt: &R, body: &Page) -> Result<MemDisk, Fail> {
     let mut disk = MemDisk::new(rt.alloc(), 2053, Bytes64::new(rt.alloc()))?;
     assert!(rt; format(&mut disk, SMALLEST) == Ok(()));
     assert!(rt; disk.write(4, body) == Ok(()));
@@ -68,23 +68,13 @@ fn expect_refused<R: Abort + AllocGlobal, D: Disk>(rt: &R, disk: &mut D, expecte
 }
 
 // What was found has no state, and this last number.
-fn expect_none<R: Abort>(rt: &R, found: &Found, last: u64) {
+pub(crate) fn expect_none<R: Abort>(rt: &R, found: &Found, last: u64) {
     assert!(rt; found.layout == SMALLEST);
     assert_eq!(rt; found.last, last);
     assert!(rt; found.relation.is_empty());
 }
 
-// The one state that was found is that of `demo/a`.
-fn expect_one<R: Abort>(rt: &R, found: &Found) {
-    assert!(rt; found.layout == SMALLEST);
-    assert_eq!(rt; found.last, 1);
-    assert_eq!(rt; found.relation.len(), 1);
-    let (key, state) = found.relation.nth(0);
-    assert!(rt; key.text() == b"demo/a".as_slice());
-    assert_eq!(rt; state.size(), 3);
-}
-
-fn expect_page<R: Abort, D: Disk>(rt: &R, disk: &mut D, page: u32, expected: &Page)
+pub(crate) fn expect_page<R: Abort, D: Disk>(rt: &R, disk: &mut D, page: u32, expected: &Page)
     ensures { D.size disk.new ≡ D.size disk.old }
 {
     let mut found = [1; PAGE_BYTES];
@@ -115,31 +105,6 @@ fn a_formatted_disk_opens_without_states(rt: HostRuntime) -> Result<(), Fail> {
     let again = recover(rt.alloc(), &mut disk).expect(&rt, "a store");
     expect_none(&rt, &again, 0);
     expect_page(&rt, &mut disk, 0, &[0; PAGE_BYTES]);
-    Ok(())
-}
-
-#[test]
-fn an_entry_of_the_last_frame_is_kept_where_its_content_stands(
-    rt: HostRuntime,
-) -> Result<(), Fail> {
-    let mut disk = disk_with(&rt, &one_set(&rt))?;
-    assert!(rt; disk.pages() == 2053);
-    assert!(rt; disk.write(1029, &page_of(&rt, b"abc")) == Ok(()));
-    let found = recover(rt.alloc(), &mut disk).expect(&rt, "a store");
-    expect_one(&rt, &found);
-    expect_page(&rt, &mut disk, 0, &page_of(&rt, b"HALFONE1"));
-    let again = recover(rt.alloc(), &mut disk).expect(&rt, "a store");
-    expect_one(&rt, &again);
-    Ok(())
-}
-
-#[test]
-fn an_entry_of_the_last_frame_is_dropped_where_its_content_is_missing(
-    rt: HostRuntime,
-) -> Result<(), Fail> {
-    let mut disk = disk_with(&rt, &one_set(&rt))?;
-    let found = recover(rt.alloc(), &mut disk).expect(&rt, "a store");
-    expect_none(&rt, &found, 1);
     Ok(())
 }
 

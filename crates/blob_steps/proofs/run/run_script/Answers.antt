@@ -1,7 +1,8 @@
 use Rattle.std.proofs.Common.{◌∙◌, ◌^◌, Ok, ap, arith, subst}
 use Rattle.store_model.specs.Store.{empty_store}
 use Rattle.blob_steps.specs.Going.{Going}
-use Rattle.blob_steps.proofs.OnTheWay.{Ended-unbegun, Going-first, HaveBegun-more, KeepsEnds-none, KeepsEnds-then, prepend-none}
+use Rattle.blob_steps.proofs.Closings.{KeepsEnds-none, KeepsEnds-then}
+use Rattle.blob_steps.proofs.OnTheWay.{Ended-unbegun, Going-first, HaveBegun-more, prepend-none}
 use Rattle.blob_steps.proofs.run.run_script.Goals as goal
 
 pub returns-in_default-clause-ended : goal.returns-in_default-clause-ended

@@ -3,13 +3,14 @@ use Rattle.std.proofs.lemmas.Result.{err_from_is_err_and}
 use Rattle.disk_model.specs.Disks.{OnlyReads}
 use Rattle.disk_model.proofs.DiskLaws.{OnlyReads-then}
 use Rattle.recover.specs.Faults.{IsOfLog}
-use Rattle.recover.specs.Frames.{held_of}
+use Rattle.recover.specs.Frames.{Adds, held_of}
 use Rattle.store_model.specs.Disk.{Image}
+use Rattle.store_model.specs.Drops.{AreDroppedLast}
 use Rattle.store_model.specs.Half.{picked}
 use Rattle.store_model.specs.HalfRefusals.{FindsHalf}
 use Rattle.store_model.specs.LogReading.{HasBodies}
 use Rattle.store_model.specs.Reading.{Gives, KeptIn, Opened, Reads, TakesEach}
-use Rattle.recover.proofs.Openings.{FindsHalf-same, Gives-found, log-read, space-read, wrote-before}
+use Rattle.recover.proofs.Openings.{Drops-found, FindsHalf-same, Gives-found, log-read, space-read, wrote-before}
 use Rattle.recover.proofs.opening.recover.Goals as goal
 
 pub returns-in_err-take_log-clause-refused : goal.returns-in_err-take_log-clause-refused
@@ -109,3 +110,20 @@ returns-clause-wrote g c =
     subst (λ (h : ℕ). FindsHalf (disk.size c.args.disk.now) image h held.layout held.last held.states) picks
     (FindsHalf-same (disk.size c.pick.new.disk) (disk.size c.args.disk.now) (disk.story c.pick.new.disk).reads image c.in_ok-half.half held
     half_read.keeps.size (half_read.stayed tells).reads (c.in_ok-held.ensures.found tells)))
+
+pub returns-clause-dropped : goal.returns-clause-dropped
+returns-clause-dropped g c tells =
+    let disk = g.D.Disk in
+    let image : Image = (disk.story c.args.disk.now).reads in
+    let held = held_of c.in_ok-held.held in
+    let synced : (disk.story c.sync.new.self).reads ≡ image = (c.sync.ensures.images tells).reads in
+    let half_read : (disk.story c.pick.new.disk).reads ≡ image = (c.pick.ensures.read.stayed tells).reads ∙ synced in
+    let opened : (disk.story c.open_half.new.disk).reads ≡ image = (c.open_half.ensures.only.stayed tells).reads ∙ half_read in
+    let picks : c.in_ok-half.half ≡ picked (image 0) = c.in_ok-half.ensures.picked tells ∙ ap (λ (pages : Image). picked (pages 0)) synced in
+    let finds : FindsHalf (disk.size c.args.disk.now) image c.in_ok-half.half held.layout held.last held.states =
+    FindsHalf-same (disk.size c.pick.new.disk) (disk.size c.args.disk.now) (disk.story c.pick.new.disk).reads image c.in_ok-half.half held
+    (c.pick.ensures.read.keeps.size ∙ c.sync.ensures.keeps.size) half_read (c.in_ok-held.ensures.found tells) in
+    let log = c.in_ok-take_log.ensures.dropped tells in
+    Drops-found (disk.size c.args.disk.now) image c.in_ok-half.half held log.0 log.1.0 c.in_ok-held.held.dropped c.take_log.new.self.dropped picks finds
+    (subst (λ (pages : Image). HasBodies pages c.in_ok-half.half log.0 log.1.0) opened log.1.1.0) c.in_ok-held.ensures.none
+    (subst (λ (pages : Image). Adds (AreDroppedLast pages held.layout) log.0 c.in_ok-held.held.dropped c.take_log.new.self.dropped) opened log.1.1.1)

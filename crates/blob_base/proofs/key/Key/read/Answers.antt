@@ -1,7 +1,8 @@
 use Rattle.std.proofs.Common.{◌≡◌, ◌+◌, ◌++◌, inl, inr, true, arith, ◌∙◌, ap}
 use Rattle.std.proofs.lemmas.Bool.{both_ways}
 use Rattle.store_model.specs.Key.{is_key, IsBadAt}
-use Rattle.blob_base.proofs.KeyTexts.{relation_read, bad_relation, bad_name, read_is_key}
+use Rattle.blob_base.proofs.KeyTexts.{relation_read}
+use Rattle.store_model.proofs.KeyTextLaws.{bad_name, bad_relation, read_is_key}
 use Rattle.blob_base.proofs.key.Key.read.Goals as goal
 use Rattle.blob_base.proofs.key.Key.read.Goals.{then-relation-eq0-via-then-relation-eq0, then-relation-eq0-via-else-relation-eq0+then-not-has_slash_at, then-name-eq0-via-then-name-eq0, then-name-eq0-via-else-name-eq0+then-end-text}
 

@@ -1,6 +1,7 @@
-use Rattle.std.proofs.Common.{ℕ, List, Option, take, sym, ap, subst, ◌∙◌}
+use Rattle.std.proofs.Common.{ℕ, List, Option, sym, ap, subst, ◌∙◌}
 use Rattle.std.specs.Io.KnownBytes.{Appends, prepend_known}
 use Rattle.std.proofs.lemmas.Result.{err_from_is_err_and}
+use Rattle.blob_report.specs.Ends.{TookFront}
 use Rattle.blob_script.specs.Words.{model_step}
 use Rattle.store_model.specs.Play.{step_play}
 use Rattle.store_model.specs.Script.{Asks}
@@ -27,7 +28,7 @@ returns-in_ok-print-in-Step-clause-going g c = λ start first old was going.
     was c.args.disk.now c.do_step.new.disk (model_step c.in-Step.step) c.do_step.new.self.text going takes
     (done.layout ∙ ap (λ w. w.store.layout) world) came.0
     (ap (λ (w : World). step_play w.store.layout going.world (model_step c.in-Step.step)) (sym world) ∙ came.1) came.2 more
-    (subst (Appends taken more) c.as_slice.ensures c.in_ok-print-in-Step.ensures.ok)
+    (subst (Appends taken more) c.as_slice.ensures c.in_ok-print-in-Step.ensures.ok.took)
 
 pub returns-in_ok-print-in-Step-clause-begun : goal.returns-in_ok-print-in-Step-clause-begun
 returns-in_ok-print-in-Step-clause-begun g c = λ n have.
@@ -37,7 +38,7 @@ pub returns-in_err-print-in-Step-clause-going : goal.returns-in_err-print-in-Ste
 returns-in_err-print-in-Step-clause-going g c = λ start first old was going.
     let done = c.in_ok-do_step-in-Step.ensures in
     let p = err_from_is_err_and c.from_residual-in_err-print-in-Step.result c.from_residual-in_err-print-in-Step.ensures.1 in
-    let printed = c.in_err-print-in-Step.ensures in
+    let printed = c.in_err-print-in-Step.ensures.err in
     let world = c.in_ok-step.ensures.world in
     let sink = g.K.Sink in
     let left = prepend_known c.args.self.now.reader (g.S.Source.left c.args.source.now) in
@@ -52,8 +53,8 @@ returns-in_err-print-in-Step-clause-going g c = λ start first old was going.
     was c.args.disk.now c.do_step.new.disk (model_step c.in-Step.step) c.do_step.new.self.text going read.1
     (done.layout ∙ ap (λ w. w.store.layout) world) came.0
     (ap (λ (w : World). step_play w.store.layout going.world (model_step c.in-Step.step)) (sym world) ∙ came.1) came.2
-    c.in_err-print-in-Step.field-0.0 more printed.front.0 (sink.frugal c.args.sink.now) (sink.faults c.args.sink.now) (sink.faults c.print.new.sink)
-    (subst (λ text. Appends taken more (take printed.front.0 text)) c.as_slice.ensures printed.front.1) printed.ends)
+    c.in_err-print-in-Step.field-0.0 more (sink.frugal c.args.sink.now) (sink.faults c.args.sink.now) (sink.faults c.print.new.sink)
+    (subst (TookFront taken more) c.as_slice.ensures printed.front) printed.ends)
 
 pub returns-in_err-do_step-in-Step-clause-going : goal.returns-in_err-do_step-in-Step-clause-going
 returns-in_err-do_step-in-Step-clause-going g c = λ start first old was going.

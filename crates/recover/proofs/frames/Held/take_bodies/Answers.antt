@@ -1,11 +1,14 @@
-use Rattle.std.proofs.Common.{◌≡◌, ℕ, ◌+◌, ◌∙◌, Bool, length, drop, refl, sym, ap, subst, arith}
+use Rattle.std.proofs.Common.{◌≡◌, ℕ, ◌+◌, ◌∙◌, Bool, List, [], length, drop, refl, sym, ap, subst, arith}
 use Rattle.std.specs.Prelude.{◌==◌, ◌&&◌}
+use Rattle.std.proofs.lemmas.List.{drop_all}
 use Rattle.disk_model.proofs.DiskLaws.{OnlyReads-then}
 use Rattle.meta_log.specs.Reads.{stored, stored_body}
+use Rattle.meta_log.specs.declared.read.Body.{Body}
 use Rattle.store_model.specs.Disk.{Image}
 use Rattle.store_model.specs.Layout.{Layout}
 use Rattle.store_model.specs.Reading.{IsBadFrame, Takes}
-use Rattle.recover.specs.Frames.{KeptBehind, KeptBy, held_of}
+use Rattle.recover.specs.Frames.{DroppedBehind, KeptBehind, KeptBy, held_of}
+use Rattle.recover.proofs.Droppings.{Telling, Telling-all, Telling-body, behind-none}
 use Rattle.recover.proofs.Followings.{Following-bad, Following-next, bad-there, stored-from, taken-there}
 use Rattle.recover.proofs.frames.Held.take_bodies.Goals.{then-is_closed, else-is_closed}
 use Rattle.recover.proofs.frames.Held.take_bodies.Goals as goal
@@ -55,4 +58,18 @@ taken-preserved g c =
       c.in_ok-is_taken.ensures.sound c.if-not-is_taken.false,
       c.in_ok-is_taken.ensures.layout ∙ so_far.2,
       OnlyReads-then disk c.args.disk.now c.taken.disk c.take_body.new.disk so_far.3 c.in_ok-is_taken.ensures.only,
+      λ tells.
+          Telling-body c.args.is_closed c.if-is_closed.is_last image (disk.story c.taken.disk).reads layout c.taken.self.layout c.args.self.now.dropped c.taken.self.dropped c.take_body.new.self.dropped
+          c.args.bodies.now c.taken.i (stored_body c.get-body.result.now) (omega (arith, c.taken-test.true, c.taken.auto.i-end, c.len-i-end.ensures)) is
+          (stored-from c.args.bodies.now c.taken.i c.get-body.result.now c.get-body.ensures) (so_far.3.stayed tells).reads so_far.2 (so_far.4 tells)
+          (c.in_ok-is_taken.ensures.dropped tells c.if-not-is_taken.false),
     )
+
+pub returns-clause-dropped : goal.returns-clause-dropped
+returns-clause-dropped g c tells =
+    let image : Image = (g.D.Disk.story c.args.disk.now).reads in
+    let none : drop c.taken.i c.args.bodies.now ≡ [] = drop_all c.taken.i c.args.bodies.now (omega (arith, c.taken-test.false, c.taken.auto.i-end, c.len-i-end.ensures)) in
+    Telling-all (DroppedBehind c.args.is_closed image c.args.self.now.layout) c.args.self.now.dropped c.taken.self.dropped (stored c.args.bodies.now)
+    (subst (λ (left : List Body). Telling (DroppedBehind c.args.is_closed image c.args.self.now.layout) c.args.self.now.dropped c.taken.self.dropped (stored c.args.bodies.now) (stored left)) none
+    (c.taken.invariant.4 tells))
+    (behind-none c.args.is_closed image c.args.self.now.layout)

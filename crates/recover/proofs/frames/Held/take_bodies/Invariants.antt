@@ -1,7 +1,9 @@
 use Rattle.std.proofs.Common.{◌≡◌, drop}
+use Rattle.std.specs.Prelude.{IsTrue}
 use Rattle.disk_model.specs.Disks.{OnlyReads}
 use Rattle.meta_log.specs.Reads.{stored}
-use Rattle.recover.specs.Frames.{IsSound, KeptBehind, held_of}
+use Rattle.recover.specs.Frames.{DroppedBehind, IsSound, KeptBehind, held_of}
+use Rattle.recover.proofs.Droppings.{Telling}
 use Rattle.recover.proofs.Followings.{Following}
 use Rattle.recover.proofs.frames.Held.take_bodies.Given as goal
 
@@ -10,3 +12,4 @@ invariant-taken g l =
     let disk = g.D.Disk in
     Following disk.tells (KeptBehind l.is_closed (disk.story l.fn.disk).reads l.fn.self.layout) (held_of l.fn.self) (held_of l.self) (stored l.bodies) (stored (drop l.i l.bodies))
     × IsSound l.self × (l.self.layout ≡ l.fn.self.layout) × OnlyReads disk l.fn.disk l.disk
+    × (IsTrue disk.tells → Telling (DroppedBehind l.is_closed (disk.story l.fn.disk).reads l.fn.self.layout) l.fn.self.dropped l.self.dropped (stored l.bodies) (stored (drop l.i l.bodies)))

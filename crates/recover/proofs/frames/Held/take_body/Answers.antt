@@ -12,6 +12,7 @@ use Rattle.relation.specs.Parts.{encoded_by}
 use Rattle.recover.specs.Frames.{AreStored, KeptBy}
 use Rattle.recover.specs.Turns.{found_by}
 use Rattle.recover.proofs.Bodies.{KeepsOne-by, Spells-same, bad-number, bad-room, entries-upto, half-few, half-small, sound-behind, stored-half, takes-body}
+use Rattle.recover.proofs.Droppings.{body-adds}
 use Rattle.recover.proofs.Numbers.{last-above}
 use Rattle.recover.proofs.frames.Held.take_body.Goals as goal
 
@@ -88,3 +89,12 @@ returns-clause-sound g c fits =
     sound-behind layout c.args.self.now.last new.last c.args.self.now.relation.states new.relation.states told c.args.body.now.bytes c.requires.sound spells
     (done.last ∙ c.in-Some.ensures.last) stored room in
     subst (λ (l : Layout). IsHalf l new.last new.relation.states) (sym done.layout) half
+
+pub returns-clause-dropped : goal.returns-clause-dropped
+returns-clause-dropped g c tells fits =
+    let layout = c.args.self.now.layout in
+    let told = model_entries c.in-Ok.entries in
+    let spells : Spells (data_pages layout) c.args.body.now.bytes told =
+    Spells-same c.data_pages.result (data_pages layout) c.as_slice.result.now c.args.body.now.bytes told c.data_pages.ensures.value c.as_slice.ensures c.in-Ok.ensures.spells in
+    body-adds c.args.is_last (g.D.Disk.story c.args.disk.now).reads layout (stored_body c.args.body.now) told c.args.self.now.dropped c.take_entries.new.self.dropped spells
+    (c.in_ok-take_entries.ensures.dropped tells)

@@ -1,9 +1,12 @@
-use Rattle.std.proofs.Common.{ℕ, ◌∙◌, subst, sym, arith}
+use Rattle.std.proofs.Common.{◌≡◌, ℕ, ◌∙◌, List, [], ap, subst, sym, arith}
 use Rattle.std.proofs.lemmas.Bool.Decides.{nat_tests}
 use Rattle.std.proofs.lemmas.List.{nil_from_length}
-use Rattle.frame_codec.specs.Values.{model_entry}
+use Rattle.frame_codec.specs.Values.{model_entries, model_entry}
+use Rattle.frame_codec.specs.declared.entry.Entry.{Entry}
+use Rattle.store_model.specs.Disk.{Image}
 use Rattle.store_model.specs.Layout.{Layout, data_pages}
-use Rattle.recover.specs.Frames.{AreStored, IsMade, IsUpTo}
+use Rattle.recover.specs.Frames.{AreStored, DroppedBy, IsMade, IsUpTo}
+use Rattle.recover.proofs.Droppings.{Telling, Telling-all, Telling-entry, by-none}
 use Rattle.recover.proofs.Takings.{Taking-all, Taking-next, upto-first}
 use Rattle.recover.proofs.frames.Held.take_entries.Goals as goal
 
@@ -33,9 +36,22 @@ taken-preserved g c =
           done.bytes done.only,
       done.layout ∙ same.1,
       done.last ∙ same.2,
+      λ tells.
+          Telling-entry c.args.is_last (disk.story c.args.disk.now).reads (disk.story c.taken.disk).reads c.args.self.now.layout c.taken.self.layout c.args.self.now.dropped c.taken.self.dropped
+          c.take_entry.new.self.dropped (model_entries c.args.entries) (model_entries c.taken.entries) (model_entries c.remove_first-entry.new.self) (model_entry c.remove_first-entry.result)
+          (ap model_entries c.remove_first-entry.ensures) (same.0.reads.stayed tells).reads same.1 (same.3 tells) (done.dropped tells),
     )
 
 pub returns-clause-kept : goal.returns-clause-kept
 returns-clause-kept g c tells =
     Taking-all g.D.Disk c.args.self.now.layout c.args.self.now.last c.args.is_last c.args.self.now.relation.states c.taken.self.relation.states c.args.entries c.taken.entries
     c.args.disk.now c.taken.disk c.taken.invariant.0 (nil_from_length c.taken.entries (grind (arith, nat_tests, c.is_empty.ensures, c.taken-test.false))) tells
+
+pub returns-clause-dropped : goal.returns-clause-dropped
+returns-clause-dropped g c tells =
+    let image : Image = (g.D.Disk.story c.args.disk.now).reads in
+    let none : c.taken.entries ≡ [] = nil_from_length c.taken.entries (grind (arith, nat_tests, c.is_empty.ensures, c.taken-test.false)) in
+    Telling-all (DroppedBy c.args.is_last image c.args.self.now.layout) c.args.self.now.dropped c.taken.self.dropped (model_entries c.args.entries)
+    (subst (λ (es : List Entry). Telling (DroppedBy c.args.is_last image c.args.self.now.layout) c.args.self.now.dropped c.taken.self.dropped (model_entries c.args.entries) (model_entries es)) none
+    (c.taken.invariant.3 tells))
+    (by-none c.args.is_last image c.args.self.now.layout)

@@ -4,7 +4,7 @@ use Rattle.meta_log.specs.Reads.{IsRefused, stored}
 use Rattle.store_model.specs.Disk.{Image}
 use Rattle.store_model.specs.Reading.{TakesEach}
 use Rattle.recover.specs.Faults.{IsFirstBadFault}
-use Rattle.recover.specs.Frames.{KeptBehind, held_of}
+use Rattle.recover.specs.Frames.{Adds, DroppedBehind, KeptBehind, held_of}
 use Rattle.recover.proofs.LogTakings.{refused-closed, refused-gate, takes-closed}
 use Rattle.recover.proofs.frames.Held.take_log.Goals as goal
 
@@ -47,3 +47,21 @@ returns-in_ok-take_bodies-in-Err-BadFrame-clause-refused g c tells =
           (subst (λ (pages : Image). TakesEach (KeptBehind false pages c.args.self.now.layout) (held_of c.args.self.now) (stored c.in-Err-BadFrame.before) (held_of c.take_bodies-in-Err-BadFrame.new.self)) same
           (c.in_ok-take_bodies-in-Err-BadFrame.ensures.taken tells)),
     )
+
+pub returns-in-Ok-clause-dropped : goal.returns-in-Ok-clause-dropped
+returns-in-Ok-clause-dropped g c tells =
+    let disk = g.D.Disk in
+    let image : Image = (disk.story c.args.disk.now).reads in
+    let same : (disk.story c.read.new.disk).reads ≡ image = (c.read.ensures.only.stayed tells).reads in
+    on_ok_weaker c.take_bodies.result
+    (λ adds. (
+      stored c.in-Ok.found.bodies,
+      (
+        c.in-Ok.found.gate,
+        (
+          c.in-Ok.ensures.read tells,
+          subst (λ (pages : Image). Adds (DroppedBehind true pages c.args.self.now.layout) (stored c.in-Ok.found.bodies) c.args.self.now.dropped c.take_bodies.new.self.dropped) same adds,
+        ),
+      ),
+    ))
+    (c.take_bodies.ensures.dropped tells)

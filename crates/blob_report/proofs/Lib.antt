@@ -1,0 +1,5 @@
+mod Printings
+mod Showings
+mod Damages
+mod Checkings
+mod Checks

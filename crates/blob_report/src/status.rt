@@ -1,0 +1,40 @@
+// The statuses of faults.
+
+ghost use Rattle.std.specs.Prelude.{◌≡◌};
+ghost use Rattle.blob_report.specs.Ends.{disk_ending, print_ending};
+ghost use Rattle.blob_report.specs.Reports.{opening_ending};
+
+use blob_base::IoFault;
+use blob_script::Status;
+use recover::RecoverFault;
+
+/// The status of a text that wasn't printed whole.
+pub(crate) fn print_status(cause: IoFault) -> Status
+    ensures { result ≡ print_ending cause }
+{
+    match cause {
+        IoFault::Failed => Status::WriteFault,
+        IoFault::OutOfMemory => Status::OutOfMemory,
+    }
+}
+
+/// The status of a disk that failed.
+pub(crate) fn disk_status(cause: IoFault) -> Status
+    ensures { result ≡ disk_ending cause }
+{
+    match cause {
+        IoFault::Failed => Status::DiskFault,
+        IoFault::OutOfMemory => Status::OutOfMemory,
+    }
+}
+
+/// The status of a disk that wasn't opened, or wasn't formatted.
+pub(crate) fn opening_status(fault: RecoverFault) -> Status
+    ensures { result ≡ opening_ending fault }
+{
+    match fault {
+        RecoverFault::Refused { why } => Status::Refused { why },
+        RecoverFault::Failed => Status::DiskFault,
+        RecoverFault::OutOfMemory => Status::OutOfMemory,
+    }
+}

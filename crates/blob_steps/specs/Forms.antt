@@ -1,0 +1,131 @@
+-- What each form of words does, and the run of a command line as a whole.
+use Rattle.std.specs.Prelude.{◌≡◌, ◌<◌, ◌↔◌, ◌⊎◌, ℕ, ⊤, IsTrue, List, Option, Some, None}
+use Rattle.std.specs.FinMap.{empty}
+use Rattle.std.specs.Io.KnownBytes.{Appends}
+use Rattle.blob_base.specs.declared.faults.StoreRefusal.{StoreRefusal}
+use Rattle.blob_base.specs.declared.faults.StoreRefusal.TheVariants.{TooSmall}
+use Rattle.blob_report.specs.Ends.{TookFront}
+use Rattle.blob_report.specs.Reports.{Checked, IsAtWork, NamesDamage, Showed}
+use Rattle.blob_script.specs.declared.form.Form as command
+use Rattle.blob_script.specs.declared.form.Form.TheVariants as command_form
+use Rattle.blob_script.specs.declared.status.Status.{Status}
+use Rattle.blob_script.specs.declared.status.Status.TheVariants as status
+use Rattle.disk_model.specs.Disks.{OnlyWrites}
+use Rattle.disk_model.specs.declared.disk.Disk as disk_trait
+use Rattle.io_ends.specs.declared.traits.Source as source_trait
+use Rattle.io_ends.specs.declared.traits.Sink as sink_trait
+use Rattle.recover.specs.Openings.{IsMetadata}
+use Rattle.recover.specs.Turns.{IsTurnPage, found_by}
+use Rattle.blob_steps.specs.Runs.{Closed, Ended, IsRaised, KeepsEnds, counts_of}
+use Rattle.store_model.specs.Form.{Check, Form, Format, Fresh, IsForm, IsNoForm, Show}
+use Rattle.store_model.specs.Layout.{Layout, total_pages}
+use Rattle.store_model.specs.Reading.{Opened, Reads}
+use Rattle.store_model.specs.Report.{format_text}
+use Rattle.store_model.specs.Store.{empty_store}
+
+-- the layout of the store that a form makes, where it makes one
+abbrev pub layout_of : Form → Option Layout
+layout_of (Format layout) = Some layout
+layout_of (Fresh layout) = Some layout
+layout_of Show = None
+layout_of Check = None
+
+-- the disk has too few pages for a layout, and both numbers are told
+pub record IsTooSmall (layout : Layout) (size : ℕ) (why : StoreRefusal) : Type 0 where
+  pub small : size < total_pages layout
+  pub why_is : why ≡ TooSmall (total_pages layout) size
+
+-- a status of a store that is refused
+abbrev pub IsRefusal : Status → Type 0
+IsRefusal (status.Refused why) = ⊤
+IsRefusal _ = ⊥
+
+-- a status of damage
+abbrev pub IsDamage : Status → Type 0
+IsDamage (status.Damaged key link want got) = ⊤
+IsDamage _ = ⊥
+
+-- each end is as it was
+pub record LeftAlone {S K D : Type 0} (source_old : S) (sink_old : K) (disk_old : D) (source_new : S) (sink_new : K) (disk_new : D) : Type 0 where
+  pub source : source_new ≡ source_old
+  pub sink : sink_new ≡ sink_old
+  pub disk : disk_new ≡ disk_old
+
+-- A store of this layout was formatted, and a script was run on it.
+pub record DidFresh {S K D : Type 0} (source : source_trait.Ghosts S) (sink : sink_trait.Ghosts K) (disk : disk_trait.Ghosts D) (layout : Layout)
+    (source_old : S) (sink_old : K) (disk_old : D) (how : Status) (source_new : S) (sink_new : K) (disk_new : D) : Type 0 where
+  -- refused exactly where the layout exceeds the disk, and then nothing was done
+  pub refused : (why : StoreRefusal) → (how ≡ status.Refused why) ↔ IsTooSmall layout (disk.size disk_old) why
+  pub alone : IsRefusal how → LeftAlone source_old sink_old disk_old source_new sink_new disk_new
+  -- which lines of the script were run else, and what came of them
+  pub ended : (IsRefusal how → ⊥) → Ended disk layout empty_store (sink.frugal sink_old) (source.left source_old)
+      (sink.taken sink_old) (sink.taken sink_new) disk_old disk_new how
+
+-- A store of this layout was formatted.
+pub record DidFormat {K D : Type 0} (sink : sink_trait.Ghosts K) (disk : disk_trait.Ghosts D) (layout : Layout)
+    (sink_old : K) (disk_old : D) (how : Status) (sink_new : K) (disk_new : D) : Type 0 where
+  -- refused exactly where the layout exceeds the disk, and then nothing was done
+  pub refused : (why : StoreRefusal) → (how ≡ status.Refused why) ↔ IsTooSmall layout (disk.size disk_old) why
+  pub alone : IsRefusal how → (sink_new ≡ sink_old) × (disk_new ≡ disk_old)
+  pub ended : IsRefusal how ⊎ IsAtWork how
+  -- how many pages the layout takes was printed, all of it where it ended well
+  pub front : TookFront (sink.taken sink_old) (sink.taken sink_new) (format_text layout)
+  pub printed : how ≡ status.Done → Appends (sink.taken sink_old) (sink.taken sink_new) (format_text layout)
+  -- the disk reads as the empty store then, and no other page than those of a half and the selector has changed, now or in a crash
+  pub reads : IsTrue disk.tells → how ≡ status.Done → Reads (disk.size disk_old) (disk.story disk_new).reads (Opened (found_by layout 0 empty))
+  pub wrote : OnlyWrites disk (IsTurnPage layout 0) disk_old disk_new
+
+-- A store was opened and shown: its report was printed, or why not. No page of its data area has changed, now or in a crash.
+pub record DidShow {K D : Type 0} (sink : sink_trait.Ghosts K) (disk : disk_trait.Ghosts D)
+    (sink_old : K) (disk_old : D) (how : Status) (sink_new : K) (disk_new : D) : Type 0 where
+  pub showed : Showed sink disk how sink_old sink_new disk_old disk_new
+  pub wrote : OnlyWrites disk (IsMetadata (disk.size disk_old) (disk.story disk_old).reads) disk_old disk_new
+
+-- A store was opened and checked: its report was printed, or why not. Damage that is told is that of a state. No page of its data area
+-- has changed, now or in a crash.
+pub record DidCheck {K D : Type 0} (sink : sink_trait.Ghosts K) (disk : disk_trait.Ghosts D)
+    (sink_old : K) (disk_old : D) (how : Status) (sink_new : K) (disk_new : D) : Type 0 where
+  pub checked : Checked sink disk how sink_old sink_new disk_old disk_new
+  pub named : NamesDamage disk how disk_old
+  pub wrote : OnlyWrites disk (IsMetadata (disk.size disk_old) (disk.story disk_old).reads) disk_old disk_new
+
+-- What a form does. The source is read by `fresh` alone.
+abbrev pub Did : {S K D : Type 0} → source_trait.Ghosts S → sink_trait.Ghosts K → disk_trait.Ghosts D → Form
+    → S → K → D → Status → S → K → D → Type 0
+Did source sink disk (Format layout) source_old sink_old disk_old how source_new sink_new disk_new =
+    (source_new ≡ source_old) × DidFormat sink disk layout sink_old disk_old how sink_new disk_new
+Did source sink disk (Fresh layout) source_old sink_old disk_old how source_new sink_new disk_new =
+    DidFresh source sink disk layout source_old sink_old disk_old how source_new sink_new disk_new
+Did source sink disk Show source_old sink_old disk_old how source_new sink_new disk_new =
+    (source_new ≡ source_old) × DidShow sink disk sink_old disk_old how sink_new disk_new
+Did source sink disk Check source_old sink_old disk_old how source_new sink_new disk_new =
+    (source_new ≡ source_old) × DidCheck sink disk sink_old disk_old how sink_new disk_new
+
+-- the words ask for a check, and it found damage
+pub record IsReported (words : List (List ℕ)) (how : Status) : Type 0 where
+  pub check : IsForm words Check
+  pub damage : IsDamage how
+
+-- the same of a form that was read
+pub record IsReportedBy (form : Option command.Form) (how : Status) : Type 0 where
+  pub check : form ≡ Some command_form.Check
+  pub damage : IsDamage how
+
+-- The run of a command line over three ends: how it ended, and how it left them.
+pub record Run {S K D : Type 0} (source : source_trait.Ghosts S) (sink : sink_trait.Ghosts K) (disk : disk_trait.Ghosts D) (words : List (List ℕ))
+    (source_old : S) (sink_old : K) (disk_old : D) (how : Status) (source_new : S) (sink_new : K) (disk_new : D) : Type 0 where
+  -- Usage exactly where the words are no form
+  pub usage : (how ≡ status.Usage) ↔ IsNoForm words
+  -- the sink before the closing line
+  pub sink_before : K
+  -- nothing was done where the words are no form; and else what their form does
+  pub alone : IsNoForm words → LeftAlone source_old sink_old disk_old source_new sink_before disk_new
+  pub did : (form : Form) → IsForm words form → Did source sink disk form source_old sink_old disk_old how source_new sink_before disk_new
+  -- the closing line; the report of a check that found damage stands in its place
+  pub closing : (IsReported words how → ⊥)
+      → Closed how (sink.frugal sink_old) (sink.faults sink_old) (sink.faults sink_new) (sink.taken sink_before) (sink.taken sink_new)
+  pub reported : IsReported words how → sink_new ≡ sink_before
+  -- a fault has its cause
+  pub faults : IsRaised how (counts_of source sink disk source_old sink_old disk_old) (counts_of source sink disk source_new sink_new disk_new)
+  -- no count of faults fell, the disk has its size, and each end is as frugal as it was
+  pub keeps : KeepsEnds source sink disk source_old sink_old disk_old source_new sink_new disk_new

@@ -1,0 +1,13 @@
+use Rattle.std.proofs.Common.{map}
+use Rattle.std.specs.Prelude.{IsTrue}
+use Rattle.disk_model.specs.Disks.{OnlyReads}
+use Rattle.frame_codec.specs.Values.{model_write}
+use Rattle.store_model.specs.Reading.{DoesWriteVerify}
+use Rattle.recover.proofs.Verifyings.{AllBefore}
+use Rattle.recover.proofs.verifying.verifies.Given as goal
+
+abbrev pub invariant-verified : goal.invariant-verified
+invariant-verified g l =
+    let disk = g.D.Disk in
+    (IsTrue disk.tells → AllBefore (DoesWriteVerify (disk.story l.fn.disk).reads l.fn.layout) (map model_write l.writes) l.i)
+    × OnlyReads disk l.fn.disk l.disk
