@@ -94,3 +94,4 @@ pub mod SurvivalStateLaws
 pub mod SurvivalEntryLaws
 pub mod SurvivalFrameLaws
 pub mod SurvivalStoryLaws
+pub mod ReportLaws

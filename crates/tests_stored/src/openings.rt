@@ -108,6 +108,20 @@ fn a_formatted_disk_opens_without_states(rt: HostRuntime) -> Result<(), Fail> {
     Ok(())
 }
 
+// The header of half 0 tells one state of 87 bytes, and zeros stand there: a key has a length of 3 at least.
+#[test]
+fn a_half_without_the_state_that_it_tells(rt: HostRuntime) -> Result<(), Fail> {
+    let mut disk = MemDisk::new(rt.alloc(), 2053, Bytes64::new(rt.alloc()))?;
+    let header = page_of_hex(
+        &rt,
+        "424c4f4248414c46000000010000000100000001000000000000000100000001\
+         00000057",
+    );
+    assert!(rt; disk.write(1, &header) == Ok(()));
+    expect_refused(&rt, &mut disk, StoreRefusal::BadTuple { half: 0, at: 0 });
+    Ok(())
+}
+
 // Nothing is written to them.
 #[test]
 fn disks_that_are_no_store(rt: HostRuntime) -> Result<(), Fail> {
