@@ -29,5 +29,5 @@ pub HasDamages-whole : (pages : ℕ) (image : Image) (found : Found) (damages : 
 HasDamages-whole pages image found damages whole has =
     AreDamages-none image (data_page found.layout) (entries found.states) damages
     (λ i one there. whole.verifies one.0 one.1
-        (get-entries found.states one.0 ∙ find-at (entries found.states) i one.0 one (entries_sorted found.states) there refl))
+    (get-entries found.states one.0 ∙ find-at (entries found.states) i one.0 one (entries_sorted found.states) there refl))
     has
