@@ -51,7 +51,7 @@ pub record LeftAlone {S K D : Type 0} (source_old : S) (sink_old : K) (disk_old 
   pub sink : sink_new ≡ sink_old
   pub disk : disk_new ≡ disk_old
 
--- A store of this layout was formatted, and a script was run on it.
+-- A script was run over an empty store of this layout. It is in memory, and nothing of it but contents is written to the disk yet.
 pub record DidFresh {S K D : Type 0} (source : source_trait.Ghosts S) (sink : sink_trait.Ghosts K) (disk : disk_trait.Ghosts D) (layout : Layout)
     (source_old : S) (sink_old : K) (disk_old : D) (how : Status) (source_new : S) (sink_new : K) (disk_new : D) : Type 0 where
   -- refused exactly where the layout exceeds the disk, and then nothing was done

@@ -103,10 +103,11 @@ fn close<K: Sink>(sink: &mut K, form: Option<Form>, status: &Status)
 /// It answers how the run ended, and the disk.
 ///
 /// The forms of words are `format FILE UNITS ROOM`, which formats a store of UNITS times 1024 data pages and ROOM pages for
-/// the states of a half; `fresh FILE UNITS ROOM`, which does so and answers a script line by line; `show FILE`, which opens a
-/// store and prints its states; and `check FILE`, which opens it, verifies each state and prints which are damaged. FILE isn't
-/// looked at: the caller has opened the disk. After a status other than `Done` one closing line is written where the sink takes
-/// it, but for a check that found damage, whose report stands instead.
+/// the states of a half; `fresh FILE UNITS ROOM`, which answers a script line by line over an empty store of that size, of
+/// which the disk has the contents alone as yet; `show FILE`, which opens a store and prints its states; and `check FILE`,
+/// which opens it, verifies each state and prints which are damaged. FILE isn't looked at: the caller has opened the disk.
+/// After a status other than `Done` one closing line is written where the sink takes it, but for a check that found damage,
+/// whose report stands instead.
 pub fn run_alone<S: Source, K: Sink, D: Disk>(
     alloc: Global,
     words: &[Word],
