@@ -4,14 +4,13 @@ A disk is kept as forms, field by field, until `image_of` spells it. So a hostil
 any of them before.
 """
 
-from hashlib import sha256
 from typing import Optional
 
 import disk
 import parts
-import sha
+from disk import pages_held, state_of
 from model import PAGE, Made, Space, extents_of, tier
-from stored import PREFIX, State
+from stored import State
 
 
 class Field:
@@ -167,27 +166,6 @@ def content(r, most_pages: int) -> bytes:
         page = bytes([r.choice([0x61, 0xFF])]) * PAGE
         return (page * (size // PAGE + 1))[:size]
     return Made(size, r.choice([0, 97])).bytes()
-
-
-def state_of(content: bytes, heads: tuple, tail: Optional[int], born: int) -> State:
-    """The state of a content at these places."""
-    mark = sha.START
-    marks = []
-    at = 0
-    for used in disk.pages_used(len(content)):
-        for _ in range(used):
-            mark = sha.after_page(mark, content[at : at + PAGE])
-            at += PAGE
-        marks.append(mark)
-    prefix = content[:PREFIX].ljust(PREFIX, b"\0")
-    return State(len(content), born, sha256(content).digest(), prefix, heads, tuple(marks), tail)
-
-
-def pages_held(state: State, content: bytes) -> dict:
-    """The data pages that a content is written to."""
-    extents = zip(state.heads, disk.pages_used(state.size))
-    pages = [head + j for head, used in extents for j in range(used)]
-    return dict(zip(pages + ([] if state.tail is None else [state.tail]), disk.split(content)))
 
 
 class Maker:

@@ -3,7 +3,10 @@
 `kinds` names what one run shows; REQUIRED lists what some hundred random cases must show.
 """
 
+from model import BUILT
+
 REPLIES = ("committed", "conflict", "no-space", "no-room")
+OTHER_VERBS = ("append", "find", "order", "open", "ls", "pread", "close", "checkpoint")
 
 
 def kinds(outcome) -> list:
@@ -25,7 +28,9 @@ def kind_of(cause: str, answer: str) -> str:
     words = answer.split(" ", 5)
     if words[0] in ("malformed", "not"):
         return f"{words[0]}: {cause}"
-    if words[0] in ("idle", "usage"):
+    if answer.startswith("store refused"):
+        return f"{cause}: refused"
+    if words[0] in ("idle", "usage", "checkpointed", "damaged"):
         return f"{cause}: {words[0]}"
     word = words[1]
     if word == "stale":
@@ -71,7 +76,8 @@ def required() -> list:
             "of one", "of several", "of sixteen", "ended by a changed key", "none committed",
             *(f"{refusal} between committed" for refusal in REPLIES[1:]),
         ],
-        "not": ["append", "find", "order", "open", "ls", "pread", "close", "checkpoint"],
+        "not": [verb for verb in OTHER_VERBS if verb not in BUILT.verbs],
+        "checkpoint": ["checkpointed"] if "checkpoint" in BUILT.verbs else [],
         "malformed": ["no line of the grammar", "line too long"],
         "faulty words": ["usage"],
     }

@@ -6,17 +6,17 @@ first one, gates from the first page of their half's log area, heads and tails f
 of the data area.
 """
 
+from hashlib import sha256
 from typing import NamedTuple, Optional
 
 import sha
-from model import PAGE, UNIT, extents_of, tier
-from stored import BODY_HEAD, GREATEST_NUMBER, Broken, Fields, State, read_body, read_tuple, spell_tuple
+from model import GREATEST_NUMBER, PAGE, UNIT, extents_of, tier
+from stored import BODY, BODY_HEAD, PREFIX, Broken, Fields, State, read_body, read_tuple, spell_tuple
 
 ZEROS = bytes(PAGE)
 HALF_ONE = b"HALFONE1"
 HEADER = b"BLOBHALF"
 GATE = b"GATEOPEN"
-BODY = b"BLOBFRM1"
 LOG_PAGES = 512
 LEAST_PAGES = 2053  # of the smallest store
 OPEN_GATE = GATE.ljust(PAGE, b"\0")
@@ -213,7 +213,7 @@ def read_frame(image: Image, store: Store, gate: int) -> int:
     is_last = not is_open(image, log + following)
     kept = [entry for entry in entries if not is_last or entry_verifies(image, store.layout, entry)]
     for entry in kept:
-        apply(store, entry)
+        apply(store.states, entry)
     store.last = entries[-1].number
     store.frames += 1
     store.kept, store.dropped = len(kept), len(entries) - len(kept)
@@ -235,12 +235,12 @@ def body_behind(image: Image, log: int, gate: int) -> bytes:
     return image.bytes(log + gate + 1, length)
 
 
-def apply(store: Store, entry) -> None:
+def apply(states: dict, entry) -> None:
     """Makes an entry's changes. What isn't there can be deleted."""
     for key, state in entry.writes:
-        store.states.pop(key, None)
+        states.pop(key, None)
         if state is not None:
-            store.states[key] = state
+            states[key] = state
 
 
 def refuse_owned_twice(store: Store) -> None:
@@ -252,6 +252,35 @@ def refuse_owned_twice(store: Store) -> None:
         if head < end:
             raise Refused(f"owned-twice {head}", f"owned-twice: by {'one' if key == owner else 'two'}")
         end, owner = head + 2**of_tier, key
+
+
+# A content and its state --------------------------------------------------------------------
+
+
+def state_of(content: bytes, heads: tuple, tail: Optional[int], born: int) -> State:
+    """The state of a content at these places."""
+    mark = sha.START
+    marks = []
+    at = 0
+    for used in pages_used(len(content)):
+        for _ in range(used):
+            mark = sha.after_page(mark, content[at : at + PAGE])
+            at += PAGE
+        marks.append(mark)
+    prefix = content[:PREFIX].ljust(PREFIX, b"\0")
+    return State(len(content), born, sha256(content).digest(), prefix, heads, tuple(marks), tail)
+
+
+def places(state: State) -> list:
+    """The data pages that hold a content, in the order of its bytes."""
+    extents = zip(state.heads, pages_used(state.size))
+    pages = [head + j for head, used in extents for j in range(used)]
+    return pages + ([] if state.tail is None else [state.tail])
+
+
+def pages_held(state: State, content: bytes) -> dict:
+    """The data pages that a content is written to."""
+    return dict(zip(places(state), split(content)))
 
 
 # The links of a content ---------------------------------------------------------------------

@@ -11,7 +11,7 @@ import sha
 import stored
 from disk_worked import ABC, ABC_TUPLE, BODY, NONE, OPEN, header, in_half, in_log
 from good_disks import CHECK, SHOW, add_frames, random_maker
-from model import PAGE, Made
+from model import GREATEST_NUMBER, PAGE, Made
 
 
 def same(found, wanted) -> None:
@@ -39,11 +39,11 @@ def hashes() -> None:
     same(sha.close(sha.START, 0, b"abc").hex(), ABC)
     for length in (1, 55, 56, 63, 64, 65, 119, 120, 4095, 4096, 4097, 12_288, 12_345):
         content = Made(length, 7).bytes()
-        state = build.state_of(content, (), None, 1)
+        state = disk.state_of(content, (), None, 1)
         mark = state.marks[-1] if state.marks else sha.START
         rest = content[length // PAGE * PAGE :]
         same(sha.close(mark, length // PAGE, rest), sha256(content).digest())
-    made = build.state_of(Made(65_536, 0).bytes(), (), None, 1)
+    made = disk.state_of(Made(65_536, 0).bytes(), (), None, 1)
     same([mark.hex() for mark in made.marks], disk_worked.MADE)
 
 
@@ -144,7 +144,7 @@ def good_disks() -> None:
         maker = random_maker(random.Random(seed))
         add_frames(maker, seed % 3)
         store = disk.read(build.image_of(maker.forms))
-        if maker.last <= stored.GREATEST_NUMBER:
+        if maker.last <= GREATEST_NUMBER:
             same((store.states, store.last), (maker.states, maker.last))
 
 

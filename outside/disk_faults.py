@@ -24,10 +24,10 @@ FAULTS = HALF_FAULTS + LOG_FAULTS
 SLOW = ("great",)  # kinds of cases that are left out: a fault may have many pages hashed
 
 
-def planted(name: str, pieces: list) -> types.ModuleType:
+def planted(name: str, pieces: list, parts: tuple = PARTS) -> types.ModuleType:
     """A copy of the model with this fault. Each piece stands there once, and is followed by what
     takes its place."""
-    sources = {part: (Path(__file__).parent / f"{part}.py").read_text() for part in PARTS}
+    sources = {part: (Path(__file__).parent / f"{part}.py").read_text() for part in parts}
     for old, new in zip(pieces[::2], pieces[1::2]):
         places = {part: source.count(old) for part, source in sources.items()}
         if sum(places.values()) != 1:
@@ -39,7 +39,7 @@ def planted(name: str, pieces: list) -> types.ModuleType:
 
 def loaded(name: str, sources: dict) -> types.ModuleType:
     """The last part of a model of these sources, each of which meets the copies before it."""
-    before = {part: sys.modules[part] for part in PARTS}
+    before = {part: sys.modules[part] for part in sources}
     try:
         for part, source in sources.items():
             copy = types.ModuleType(part)

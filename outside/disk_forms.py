@@ -30,9 +30,15 @@ def run(words: list, image: Optional[disk.Image], opens: bool = True) -> Ran:
     found = disk.read(image)
     if isinstance(found, disk.Refusal):
         return Ran(f"store refused: {found.line}\n".encode(), 6, None, image, found, ())
-    lines, links = (show(found), ()) if form["form"] == "show" else check(image, found)
+    text, status, links = report(form["form"], image, found)
+    return Ran(text, status, None, disk.turned(image, found), found, links)
+
+
+def report(form: str, image: disk.Image, found: disk.Store) -> tuple:
+    """What `show` or `check` writes, its status, and the links that fail."""
+    lines, links = (show(found), ()) if form == "show" else check(image, found)
     text = "".join(line + "\n" for line in lines).encode()
-    return Ran(text, 9 if links else 0, None, disk.turned(image, found), found, links)
+    return text, 9 if links else 0, links
 
 
 def show(store: disk.Store) -> list:
@@ -52,5 +58,10 @@ def check(image: disk.Image, store: disk.Store) -> tuple:
         link = disk.failing_link(image, store.layout, store.states[key])
         if link is not None:
             links.append(link)
-            lines.append(f"damaged {key.decode()} {link.number} {link.want.hex()} {link.got.hex()}")
+            lines.append(damaged(key, link))
     return lines + [f"checked {len(store.states)} damaged {len(links)}"], tuple(links)
+
+
+def damaged(key: bytes, link: disk.Link) -> str:
+    """A content's first link that fails."""
+    return f"damaged {key.decode()} {link.number} {link.want.hex()} {link.got.hex()}"

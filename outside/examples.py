@@ -1,7 +1,8 @@
 """Checks the model alone: by the worked cases, which the program is also run on, and by further
 examples whose answers, places and pages were found by hand.
 
-`python3 outside/examples.py` checks them all, those of disks too, which are in disk_examples.py.
+`python3 outside/examples.py` checks them all, also those of disks, which are in disk_examples.py, and
+those of a store that lasts, in lasting_examples.py.
 Lines are joined here by `; `.
 """
 
@@ -10,6 +11,7 @@ import sys
 sys.dont_write_bytecode = True  # nothing is left beside this file
 
 import disk_examples
+import lasting_examples
 import model
 import worked
 
@@ -165,4 +167,5 @@ if __name__ == "__main__":
     for check in (worked_cases, first_path, places, contents, full_stores, sessions, words):
         check()
     disk_examples.check_all()
+    lasting_examples.check_all()
     print("all examples hold")

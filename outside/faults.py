@@ -56,8 +56,8 @@ FAULTS = [
     ),
     (
         "a group ends after a refused member",
-        "        sessions[number] = Session()\n",
-        "        sessions[number] = Session()\n"
+        "        sessions[number].leave()\n",
+        "        sessions[number].leave()\n"
         "        if 'committed' not in lines[-1]:\n"
         "            break\n",
     ),
@@ -115,8 +115,8 @@ FAULTS = [
     ),
     (
         "a refused member takes a number",
-        "        sessions[number] = Session()\n",
-        "        sessions[number] = Session()\n"
+        "        sessions[number].leave()\n",
+        "        sessions[number].leave()\n"
         "        group.last += 0 if 'committed' in lines[-1] else 1\n",
     ),
     (
@@ -267,10 +267,10 @@ FAULTS = [
     ),
     (
         "a get after a delete gives the old content",
-        "        if key in self.changes:\n"
-        "            return self.changes[key]\n",
-        "        if self.changes.get(key) is not None:\n"
-        "            return self.changes[key]\n",
+        "            return self.changes[key] is not None\n"
+        "        return key in store.blobs\n",
+        "            return self.changes[key] is not None or key in store.blobs\n"
+        "        return key in store.blobs\n",
     ),
     (
         "a delete after a put keeps the put",
@@ -341,10 +341,10 @@ FAULTS = [
     ),
     (
         "a refused member keeps its transaction",
-        "        sessions[number] = Session()\n",
+        "        sessions[number].leave()\n",
         "        sessions[number].queued = False\n"
         "        if 'committed' in lines[-1]:\n"
-        "            sessions[number] = Session()\n",
+        "            sessions[number].leave()\n",
     ),
     # Pages
     (
@@ -375,11 +375,9 @@ FAULTS = [
     # Lines
     (
         "skipped lines aren't counted",
-        "        if step is None:\n"
-        "            said.append",
-        "        if step is None:\n"
-        "            skipped += 1\n"
-        "            said.append",
+        "            said.append(answered",
+        "            skipped += step is None\n"
+        "            said.append(answered",
     ),
     ("a comment behind a blank is skipped", 'line.startswith(b"#")', 'line.lstrip().startswith(b"#")'),
     (
@@ -432,7 +430,17 @@ HELPS = {
             "        self.owned += getattr(store, 'lost', [])",
         ),
     ],
-    "session 16 is let through": [("for _ in range(16)]", "for _ in range(17)]")],
+    "a get after a delete gives the old content": [
+        (
+            "return self.changes[key] if key in self.changes else store.content(key)",
+            "return self.changes[key] if self.changes.get(key) is not None else store.content(key)",
+        ),
+        (
+            "return size_and_digest(self.changes[key]) if key in self.changes else store.size_and_digest(key)",
+            "return size_and_digest(self.content(store, key))",
+        ),
+    ],
+    "session 16 is let through": [("for number in range(16)]", "for number in range(17)]")],
 }
 
 
@@ -452,7 +460,7 @@ def planted(name: str, old: str, new: str) -> types.ModuleType:
 def outcome(of_model, case: cases.Case) -> tuple:
     """What a run shows: the text, the status and the file. A fault may also make it fail."""
     try:
-        return of_model.run(case.words, case.script, case.opens)[:5]
+        return of_model.run(case.words, case.script, case.opens, of_model.BUILT)[:5]
     except Exception as failed:
         return (type(failed).__name__,)
 

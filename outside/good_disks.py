@@ -9,8 +9,8 @@ import disk
 import hostile
 import parts
 from build import Forms, Maker, content
-from model import PAGE, NoSpace, extents_of
-from stored import GREATEST_NUMBER, State
+from model import GREATEST_NUMBER, PAGE, NoSpace, extents_of
+from stored import State
 
 SHOW = [b"show", b"s"]
 CHECK = [b"check", b"s"]

@@ -8,8 +8,7 @@ from typing import Optional
 
 import disk
 from build import Field, Forms, copy, fitted, flat, named, spell, write_form
-from model import GREATEST_SIZE, PAGE
-from stored import GREATEST_NUMBER
+from model import GREATEST_NUMBER, GREATEST_SIZE, PAGE
 
 # What a field may hold at the ends of its rule, and one beyond.
 LIMITS = {

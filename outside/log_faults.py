@@ -39,18 +39,18 @@ LOG_FAULTS = [
     (
         "a last frame is kept whole or not at all",
         "    for entry in kept:\n"
-        "        apply(store, entry)\n",
+        "        apply(store.states, entry)\n",
         "    for entry in kept if len(kept) == len(entries) else []:\n"
-        "        apply(store, entry)\n",
+        "        apply(store.states, entry)\n",
     ),
     (
         "entries behind a dropped one are dropped",
         "    for entry in kept:\n"
-        "        apply(store, entry)\n",
+        "        apply(store.states, entry)\n",
         "    for entry, one in zip(kept, entries):\n"
         "        if entry is not one:\n"
         "            break\n"
-        "        apply(store, entry)\n",
+        "        apply(store.states, entry)\n",
     ),
     (
         "an entry is kept where one of its states verifies",
@@ -135,17 +135,17 @@ LOG_FAULTS = [
     ("bytes past the last entry are let through", "    if fields.at < len(body):\n", "    if False:\n"),
     (
         "a delete of what isn't there is refused",
-        "        store.states.pop(key, None)\n",
-        "        if state is None and key not in store.states:\n"
+        "        states.pop(key, None)\n",
+        "        if state is None and key not in states:\n"
         "            raise Broken('nothing to delete', 0)\n"
-        "        store.states.pop(key, None)\n",
+        "        states.pop(key, None)\n",
     ),
     (
         "a delete changes nothing",
-        "        store.states.pop(key, None)\n",
+        "        states.pop(key, None)\n",
         "        if state is None:\n"
         "            continue\n"
-        "        store.states.pop(key, None)\n",
+        "        states.pop(key, None)\n",
     ),
     (
         "a gate on the last page ends the log",

@@ -1,9 +1,10 @@
 """A plain model of the program, written without sight of its code.
 
-`run` says what one run of the program does: what it writes on standard output and standard
-error, its exit status, and every byte of its file afterwards. It is made to be read against the
-documentation, so it is slow and simple: contents are whole lists of bytes, the store is a plain
-map, free places are searched page by page.
+`run` says what one run of a program does whose store doesn't last: what it writes on standard
+output and standard error, its exit status, and every byte of its file afterwards. It is made to be
+read against the documentation, so it is slow and simple: contents are whole lists of bytes, the
+store is a plain map, free places are searched page by page. A store that lasts is in lasting.py,
+which has the lines, the transactions and the judgement of a group from here.
 
 The order of this file: what is built, words, lines and contents, the store and its places,
 transactions and answers, the lead of a group, the play of a script, the whole run.
@@ -18,6 +19,7 @@ PAGE = 4096  # bytes
 UNIT = 1024  # data pages
 GREATEST_SIZE = 381_669_375  # bytes of a content
 GREATEST_TIER = 10
+GREATEST_NUMBER = 2**62
 KEYS_OF_A_TRANSACTION = 16
 LONGEST_LINE = 65_536  # bytes without the line's end
 MOST_LINES = 1_000_000
@@ -31,6 +33,7 @@ class Built(NamedTuple):
 
     forms: frozenset  # first words of the forms of words; any other form is faulty
     verbs: frozenset  # verbs of script lines; any other verb of the grammar is not built
+    lasts: bool  # whether `fresh` formats its file, and a lead commits to the log
 
 
 # The program of today. To widen the model, widen this table; a verb that has no function in
@@ -39,7 +42,14 @@ class Built(NamedTuple):
 TODAY = Built(
     forms=frozenset({"fresh", "format", "check", "show"}),
     verbs=frozenset({"begin", "get", "stat", "put", "del", "commit", "abort", "lead"}),
+    lasts=False,
 )
+
+# The program once its store lasts. All its runs are in lasting.py.
+LASTING = Built(forms=TODAY.forms | {"steps"}, verbs=TODAY.verbs | {"checkpoint"}, lasts=True)
+
+# What the program is compared with: TODAY or LASTING.
+BUILT = LASTING
 
 
 # Words --------------------------------------------------------------------------------------
@@ -231,6 +241,10 @@ class Blob(NamedTuple):
     heads: tuple  # first pages of its extents, in order
     tail: Optional[int]  # the page of the bytes past the last full page, where there are any
 
+    @property
+    def size(self) -> int:
+        return len(self.content)
+
     def owned(self) -> list:
         """The (head, tier) of every extent and of the tail page, which counts as tier 0."""
         extents = [(head, tier(i)) for i, head in enumerate(self.heads)]
@@ -264,12 +278,31 @@ class Store:
 
     def states_length(self) -> int:
         """The length of all states."""
-        return sum(state_length(key, len(blob.content)) for key, blob in self.blobs.items())
+        return sum(state_length(key, blob.size) for key, blob in self.blobs.items())
+
+    def content(self, key: bytes) -> bytes:
+        """The content of a key that is there."""
+        return self.blobs[key].content
+
+    def size_and_digest(self, key: bytes) -> tuple:
+        """What is told of that content where its bytes aren't asked for."""
+        return size_and_digest(self.blobs[key].content)
+
+    def commit(self, group: "Group") -> None:
+        """Makes the changes of a group's committing members."""
+        group.commit()
+
+    def turn(self) -> None:
+        """Turns halves, of which a store that doesn't last has none."""
 
     def pour(self, blob: Blob) -> None:
         """Writes a content to its pages, each page once, the tail page filled with zeros."""
         for i, page in enumerate(blob.pages()):
             self.disk[page] = blob.content[PAGE * i : PAGE * (i + 1)].ljust(PAGE, b"\0")
+
+
+def size_and_digest(content: bytes) -> tuple:
+    return len(content), sha256(content).hexdigest()
 
 
 class Space:
@@ -312,18 +345,28 @@ class Refused(Exception):
 class Transaction:
     """What a session has read and changed since its `begin`."""
 
-    def __init__(self):
+    def __init__(self, session: int, nth: int):
+        self.session = session
+        self.nth = nth  # which one of its session's transactions it is, counted from 1
         self.reads = {}  # from key to the number found, or None where nothing was there
         self.changes = {}  # from key to the content put, or None where it is deleted
 
     def touches(self, key: bytes) -> bool:
         return key in self.reads or key in self.changes
 
-    def value(self, store: Store, key: bytes) -> Optional[bytes]:
-        """What the transaction sees under the key: its own change, else the store's content."""
+    def has(self, store: Store, key: bytes) -> bool:
+        """Whether the transaction sees anything under the key: its own change comes first."""
         if key in self.changes:
-            return self.changes[key]
-        return store.blobs[key].content if key in store.blobs else None
+            return self.changes[key] is not None
+        return key in store.blobs
+
+    def content(self, store: Store, key: bytes) -> bytes:
+        """The bytes that it sees under a key that it has."""
+        return self.changes[key] if key in self.changes else store.content(key)
+
+    def size_and_digest(self, store: Store, key: bytes) -> tuple:
+        """The same of their size and digest."""
+        return size_and_digest(self.changes[key]) if key in self.changes else store.size_and_digest(key)
 
     def refuse_too_many(self, key: bytes) -> None:
         """An untouched key would be one too many."""
@@ -337,22 +380,27 @@ class Transaction:
         if key in self.reads and key not in self.changes and self.reads[key] != now:
             raise Refused("stale " + ("none" if now is None else str(now)))
 
-    def read(self, store: Store, key: bytes) -> bytes:
-        """The key's value; the read is recorded even where nothing is there."""
+    def read(self, store: Store, key: bytes) -> None:
+        """Reads the key, which must be there; the read is recorded even where it isn't."""
         self.refuse_too_many(key)
         self.refuse_stale(store, key)
         if not self.touches(key):
             self.reads[key] = store.number(key)
-        value = self.value(store, key)
-        if value is None:
+        if not self.has(store, key):
             raise Refused("absent")
-        return value
 
 
 class Session:
     """A session has no transaction, an open one, or a queued one."""
 
-    def __init__(self):
+    def __init__(self, number: int):
+        self.number = number
+        self.begun = 0  # transactions so far
+        self.transaction = None
+        self.queued = False
+
+    def leave(self) -> None:
+        """Its request was answered, so that it has no transaction."""
         self.transaction = None
         self.queued = False
 
@@ -377,18 +425,23 @@ def begin(store: Store, session: Session) -> str:
     session.refuse_busy()
     if session.transaction is not None:
         raise Refused("already")
-    session.transaction = Transaction()
+    session.begun += 1
+    session.transaction = Transaction(session.number, session.begun)
     return "begun"
 
 
 def get(store: Store, session: Session, key: bytes) -> str:
-    value = session.open_transaction().read(store, key)
-    return f"value {len(value)} {to_hex(value)}"
+    transaction = session.open_transaction()
+    transaction.read(store, key)
+    content = transaction.content(store, key)
+    return f"value {len(content)} {to_hex(content)}"
 
 
 def stat(store: Store, session: Session, key: bytes) -> str:
-    value = session.open_transaction().read(store, key)
-    return f"stat {len(value)} {sha256(value).hexdigest()}"
+    transaction = session.open_transaction()
+    transaction.read(store, key)
+    size, digest = transaction.size_and_digest(store, key)
+    return f"stat {size} {digest}"
 
 
 def put(store: Store, session: Session, key: bytes, content) -> str:
@@ -445,6 +498,15 @@ def turn(store: Store, session: Session, step: Step) -> str:
 # The lead of a group ------------------------------------------------------------------------
 
 
+class Entry(NamedTuple):
+    """A committing member of a group."""
+
+    number: int
+    session: int
+    nth: int
+    changes: dict  # from key, in their order, to its new Blob, or None where it goes
+
+
 class Group:
     """A group while it is built from the front of the queue. The store stays as it was until
     the whole group is judged."""
@@ -455,6 +517,7 @@ class Group:
         self.owned = [block for blob in store.blobs.values() for block in blob.owned()]
         self.growth = 0  # of the states' length, by the committing members
         self.changed = {}  # from key to its new Blob, or None where it goes
+        self.entries = []  # of the committing members
 
     def ends_before(self, transaction: Transaction) -> bool:
         """Whether the transaction touches a key that an earlier committing member changes."""
@@ -462,12 +525,15 @@ class Group:
 
     def judge(self, transaction: Transaction) -> str:
         """The reply to the next member: the first refusal that applies, or its number. A refused
-        member takes no place and no number. (That numbers run out past 2^62 no script shows.)"""
+        member takes no place and no number. (Numbers run out over a file that has high ones.)"""
         for key in sorted(transaction.reads):
             read, now = transaction.reads[key], self.store.number(key)
             if read != now:
                 shown = ["none" if number is None else number for number in (read, now)]
                 return f"conflict {key.decode()} {shown[0]} {shown[1]}"
+
+        if self.last == GREATEST_NUMBER:
+            return f"no-number {self.last}"
 
         # Owned is what the store owns, also what this group replaces, and what the members
         # before took. Places are taken key by key, extents in order, then the tail.
@@ -489,6 +555,7 @@ class Group:
         self.growth += growth
         self.owned += [block for blob in blobs.values() if blob for block in blob.owned()]
         self.changed.update(blobs)
+        self.entries.append(Entry(self.last, transaction.session, transaction.nth, blobs))
         return f"committed {self.last}"
 
     def place(self, space: Space, content: bytes) -> Blob:
@@ -500,12 +567,12 @@ class Group:
     def lengthening(self, key: bytes, blob: Optional[Blob]) -> int:
         """How much longer the states become by one change."""
         old = self.store.blobs.get(key)
-        lengths = [0 if one is None else state_length(key, len(one.content)) for one in (old, blob)]
+        lengths = [0 if one is None else state_length(key, one.size) for one in (old, blob)]
         return lengths[1] - lengths[0]
 
     def commit(self) -> None:
-        """Writes the new contents, then changes the objects. What was replaced is owned by no
-        object from then on, and its pages keep their bytes."""
+        """Writes the new contents, then changes the objects, where the store doesn't last. What was
+        replaced is owned by no object from then on, and its pages keep their bytes."""
         for key in sorted(self.changed):
             if self.changed[key] is not None:
                 self.store.pour(self.changed[key])
@@ -526,8 +593,8 @@ def lead(store: Store, sessions: list, queue: list) -> list:
     while queue and not group.ends_before(sessions[queue[0]].transaction):
         number = queue.pop(0)
         lines.append(f"{number} {group.judge(sessions[number].transaction)}")
-        sessions[number] = Session()
-    group.commit()
+        sessions[number].leave()
+    store.commit(group)
     return lines
 
 
@@ -578,25 +645,30 @@ def read_line(number: int, line: bytes, built: Built) -> Optional[Step]:
 def play(store: Store, script: bytes, built: Built) -> tuple:
     """Runs the lines one by one. What came of each, and the exit status. At the end of the
     script open and queued transactions are dropped."""
-    sessions = [Session() for _ in range(16)]
+    sessions = [Session(number) for number in range(16)]
     queue = []
     said = []
     for number, line in enumerate(split_lines(script), start=1):
         try:
             step = read_line(number, line, built)
+            said.append(answered(store, sessions, queue, step) if step else COMMENT if line else BLANK)
         except Ended as end:
             return said + [Said(end.cause, (end.closing.format(number),))], end.status
-        if step is None:
-            said.append(COMMENT if line else BLANK)
-        elif step.verb == "lead":
-            answers = lead(store, sessions, queue)
-            said.append(Said("lead", tuple(answers), len(queue)))
-        else:
-            answer = turn(store, sessions[step.session], step)
-            said.append(Said(step.verb, (f"{step.session} {answer}",)))
-            if answer == "queued":
-                queue.append(step.session)
     return said + [Said("end of the script", ())], 0
+
+
+def answered(store: Store, sessions: list, queue: list, step: Step) -> Said:
+    """Answers one line that isn't skipped."""
+    if step.verb == "lead":
+        answers = lead(store, sessions, queue)
+        return Said("lead", tuple(answers), len(queue))
+    if step.verb == "checkpoint":
+        store.turn()
+        return Said("checkpoint", ("checkpointed",))
+    answer = turn(store, sessions[step.session], step)
+    if answer == "queued":
+        queue.append(step.session)
+    return Said(step.verb, (f"{step.session} {answer}",))
 
 
 def text_of(said: list) -> bytes:
@@ -619,8 +691,8 @@ class Outcome(NamedTuple):
 
 
 def run(words: list, script: bytes, opens: bool = True, built: Built = TODAY) -> Outcome:
-    """One run over these words, which are a form `fresh` or no form at all, and this script.
-    `opens`: the system lets the file be made."""
+    """One run over these words, which are a form `fresh` or no form at all, and this script, of a
+    program whose store doesn't last. `opens`: the system lets the file be made."""
     form = read_form(words, built)
     if form is None:
         said = [Said("faulty words", ("usage",))]

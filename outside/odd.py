@@ -1,6 +1,7 @@
 """Random cases that are out of the common run: lines that are almost right, lines of verbs that
 are not built, odd scripts, faulty words, files that can't be made."""
 
+from model import BUILT
 from parts import Case, case_of, content, digits, key, name, older_file, small, some_keys, with_skipped, words
 from talk import Talk
 
@@ -130,7 +131,7 @@ def not_built(r) -> Case:
     """Lines that go well, with one of a verb that is not built among them."""
     lines = common_lines(r, r.choice([3, 8, 20, 60]))
     count = r.randint(0, 65_536)
-    line = r.choice([
+    others = [
         b"append %s %s" % (key(r), small(r)),
         b"find " + content(r),
         b"order %s %d" % (small(r), count),
@@ -139,7 +140,8 @@ def not_built(r) -> Case:
         b"pread %d %d %d" % (r.randint(0, 255), r.randint(0, 2**32 - 1), count),
         b"close %d" % r.randint(0, 255),
         b"checkpoint",
-    ])
+    ]
+    line = r.choice([other for other in others if other.split(b" ")[0].decode() not in BUILT.verbs])
     session = b"" if line == b"checkpoint" else b"%d " % r.randint(0, 15)
     lines.insert(r.randint(0, len(lines)), session + line)
     return case_of(r, lines)

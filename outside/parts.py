@@ -2,6 +2,8 @@
 
 from typing import NamedTuple, Optional
 
+from model import BUILT
+
 PAGE = 4096
 GREATEST_SIZE = 381_669_375
 
@@ -45,6 +47,8 @@ def older_file(r) -> Optional[bytes]:
 def case_of(r, lines: list, units: int = 1, room: int = 1) -> Case:
     """A case of these lines, mostly with some that are skipped among them. The last line's end
     may be missing."""
+    if "checkpoint" in BUILT.verbs:
+        lines = with_checkpoints(r, lines, r.choice([0, 0, 0.02, 0.1]))
     lines = with_skipped(r, lines, r.choice([0, 0, 0.05, 0.3]))
     script = b"\n".join(lines) + (b"\n" if lines and r.random() < 0.8 else b"")
     return Case("", words(r, units, room), script, older_file(r), True, False)
@@ -60,6 +64,14 @@ def with_skipped(r, lines: list, how_often: float) -> list:
         while r.random() < how_often:
             found.append(r.choice(SKIPPED))
         found.append(line)
+    return found
+
+
+def with_checkpoints(r, lines: list, how_often: float) -> list:
+    """The lines, with checkpoints among them."""
+    found = []
+    for line in lines:
+        found += [b"checkpoint", line] if r.random() < how_often else [line]
     return found
 
 

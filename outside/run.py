@@ -3,10 +3,12 @@
     python3 outside/run.py PROGRAM N [SEED]
     python3 outside/run.py PROGRAM N --random
     python3 outside/run.py PROGRAM --disks N [SEED | --random]
+    python3 outside/run.py PROGRAM --lasting N [SEED | --random]
 
 Runs the N random cases of the seeds SEED, SEED + 1, and so on. At the end it counts what the
 random cases showed; a run of many must show all that there is. `--disks`: cases of the forms that
-format, show and check a disk, by disk_run.py; else cases of scripts.
+format, show and check a disk, by disk_run.py; `--lasting`: cases of several runs over a store that
+lasts, by lasting_run.py; else cases of one script.
 """
 
 import os
@@ -23,7 +25,9 @@ sys.dont_write_bytecode = True  # nothing is left beside this file
 import cases
 import counts
 import disk_run
+import lasting_run
 import model
+import play_forms
 import worked
 from compare import file_difference, first_difference
 
@@ -121,24 +125,25 @@ class Run:
 
     def worked(self, number: int, one: worked.Worked) -> None:
         case = worked.case_of(one)
-        wanted = model.run(case.words, case.script)
+        wanted = play_forms.outcome(case.words, case.script)
         faults = [] if worked.fits(one, wanted) else ["the model isn't as it was worked out"]
         self.case(f"worked-{number}", case, wanted, faults)
 
     def random(self, seed: int) -> None:
         case = cases.make(seed)
-        wanted = model.run(case.words, case.script, case.opens)
+        wanted = play_forms.outcome(case.words, case.script, case.before, case.opens)
         self.shown.update(counts.kinds(wanted))
         self.case(f"seed-{seed}", case, wanted, [])
 
 
 def main(arguments: list) -> int:
-    of_disks = arguments[1:2] == ["--disks"]
-    read = read_arguments(arguments[:1] + arguments[2:] if of_disks else arguments)
+    compares = {"--disks": disk_run.compare, "--lasting": lasting_run.compare}
+    other = compares.get(arguments[1]) if len(arguments) > 1 else None
+    read = read_arguments(arguments[:1] + arguments[2:] if other else arguments)
     if read is None or not os.access(read[0], os.X_OK):
-        print("python3 run.py PROGRAM [--disks] N [SEED | --random]", file=sys.stderr)
+        print("python3 run.py PROGRAM [--disks | --lasting] N [SEED | --random]", file=sys.stderr)
         return 2
-    return disk_run.compare(*read) if of_disks else compare(*read)
+    return (other or compare)(*read)
 
 
 def compare(program: str, count: int, first: int) -> int:

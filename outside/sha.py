@@ -1,9 +1,11 @@
 """SHA-256 from a saved hash state, after FIPS 180-4.
 
 The standard library hashes whole messages alone; marks are hash states in the middle of one. A
-state is its eight words as 32 bytes.
+state is its eight words as 32 bytes. Where the system has OpenSSL's library, its blocks are taken,
+since it is some hundred times faster; `after_slowly` is always the code of this file.
 """
 
+import ctypes
 import struct
 from functools import lru_cache
 
@@ -49,12 +51,43 @@ def after_block(words: tuple, block: bytes) -> tuple:
     return tuple(old + new & WORD for old, new in zip(words, (a, b, c, d, e, f, g, h)))
 
 
-def after(state: bytes, blocks: bytes) -> bytes:
+def after_slowly(state: bytes, blocks: bytes) -> bytes:
     """The hash state after whole blocks more."""
     words = struct.unpack(">8I", state)
     for at in range(0, len(blocks), BLOCK):
         words = after_block(words, blocks[at : at + BLOCK])
     return struct.pack(">8I", *words)
+
+
+class Context(ctypes.Structure):
+    """OpenSSL's hash in the middle of a message: its state, and what is kept of a block."""
+
+    _fields_ = [("state", ctypes.c_uint32 * 8), ("rest", ctypes.c_uint32 * 20)]
+
+
+def find_library():
+    """OpenSSL's function that takes more bytes, or None where the system has none."""
+    for name in ("libcrypto.so.3", "libcrypto.so.1.1", "libcrypto.so"):
+        try:
+            function = ctypes.CDLL(name).SHA256_Update
+        except (OSError, AttributeError):
+            continue
+        function.argtypes = [ctypes.POINTER(Context), ctypes.c_char_p, ctypes.c_size_t]
+        return function
+    return None
+
+
+LIBRARY = find_library()
+
+
+def after(state: bytes, blocks: bytes) -> bytes:
+    """The same, fast where it can be."""
+    if LIBRARY is None:
+        return after_slowly(state, blocks)
+    context = Context()
+    context.state[:] = struct.unpack(">8I", state)
+    LIBRARY(ctypes.byref(context), blocks, len(blocks))
+    return struct.pack(">8I", *context.state)
 
 
 @lru_cache(maxsize=8192)

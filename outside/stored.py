@@ -7,10 +7,10 @@ first field that breaks one, and a field that is cut short by its own first byte
 import re
 from typing import NamedTuple, Optional
 
-from model import GREATEST_SIZE, PAGE, extents_of, tier
+from model import GREATEST_NUMBER, GREATEST_SIZE, PAGE, extents_of, tier
 
-GREATEST_NUMBER = 2**62
 PREFIX = 32  # bytes of a content that its state repeats
+BODY = b"BLOBFRM1"
 BODY_HEAD = 12  # bytes of a body's text and length
 ENTRIES = 16  # most of a body
 WRITES = 16  # most of an entry
@@ -150,6 +150,24 @@ class Entry(NamedTuple):
     session: int
     nth: int
     writes: list  # of (key, State), the state None where the key was deleted
+
+
+def spell_body(entries: list) -> bytes:
+    """The bytes of a body of these entries."""
+    held = b"".join(spell_entry(entry) for entry in entries)
+    length = BODY_HEAD + 1 + len(held)
+    return BODY + length.to_bytes(4, "big") + bytes([len(entries)]) + held
+
+
+def spell_entry(entry: Entry) -> bytes:
+    head = entry.number.to_bytes(8, "big") + bytes([entry.session]) + entry.nth.to_bytes(8, "big")
+    return head + bytes([len(entry.writes)]) + b"".join(spell_write(*write) for write in entry.writes)
+
+
+def spell_write(key: bytes, state: Optional[State]) -> bytes:
+    if state is None:
+        return bytes([DELETE, len(key)]) + key
+    return bytes([SET]) + spell_tuple(key, state)
 
 
 def read_body(body: bytes, data_pages: int, number: int) -> list:

@@ -11,3 +11,4 @@ pub use checking::run_check;
 pub use formatting::run_format;
 pub use printing::print;
 pub use showing::run_show;
+pub use status::opening_status;

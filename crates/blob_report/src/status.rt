@@ -29,7 +29,7 @@ pub(crate) fn disk_status(cause: IoFault) -> Status
 }
 
 /// The status of a disk that wasn't opened, or wasn't formatted.
-pub(crate) fn opening_status(fault: RecoverFault) -> Status
+pub fn opening_status(fault: RecoverFault) -> Status
     ensures { result ≡ opening_ending fault }
 {
     match fault {

@@ -28,6 +28,7 @@ pub record SpellLayout (one two : List ℕ) (layout : Layout) : Type 0 where
 abbrev pub model_form : Form → words.Form
 model_form (form.Format units room) = words.Format (layout_by units room)
 model_form (form.Fresh units room) = words.Fresh (layout_by units room)
+model_form form.Steps = words.Steps
 model_form form.Show = words.Show
 model_form form.Check = words.Check
 

@@ -16,6 +16,8 @@ pub enum Form {
     Format { units: u32, room: u32 },
     /// `fresh FILE UNITS ROOM`: format a store, and run a script on it.
     Fresh { units: u32, room: u32 },
+    /// `steps FILE`: run a script on a store.
+    Steps,
     /// `show FILE`: tell what a store has.
     Show,
     /// `check FILE`: tell which contents of a store are damaged.
@@ -49,6 +51,8 @@ fn read_alone(verb: &[u8], file: &[u8]) -> Option<Form>
 {
     if file.is_empty() {
         None
+    } else if is(verb, b"steps") {
+        Some(Form::Steps)
     } else if is(verb, b"show") {
         Some(Form::Show)
     } else if is(verb, b"check") {

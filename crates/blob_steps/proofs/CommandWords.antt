@@ -2,7 +2,7 @@
 use Rattle.std.proofs.Common.{◌≡◌, ℕ, List, true, false, bytes_eq, decimal, arith, codes, refl, sym, ◌∙◌, ap}
 use Rattle.std.proofs.lemmas.Slice.Eq.{bytes_eq-Decides}
 use Rattle.std.proofs.lemmas.Fmt.{decimal_injective}
-use Rattle.store_model.specs.Form.{Check, Form, Format, Fresh, IsForm, IsOfFile, IsOfLayout, Show}
+use Rattle.store_model.specs.Form.{Check, Form, Format, Fresh, IsForm, IsOfFile, IsOfLayout, Show, Steps}
 use Rattle.store_model.specs.Layout.{IsLayout, Layout}
 
 -- two layouts whose numbers are spelled alike
@@ -54,6 +54,30 @@ fresh-not_check same =
 show-not_check : codes "show" ≡ codes "check" → ⊥
 show-not_check same = cc
 
+format-not_steps : codes "format" ≡ codes "steps" → ⊥
+format-not_steps same =
+    let alike : bytes_eq (codes "format") (codes "steps") ≡ true = (bytes_eq-Decides (codes "format") (codes "steps")).1 same in
+    let unlike : bytes_eq (codes "format") (codes "steps") ≡ false = refl in
+    true-not_false (sym alike ∙ unlike)
+
+fresh-not_steps : codes "fresh" ≡ codes "steps" → ⊥
+fresh-not_steps same =
+    let alike : bytes_eq (codes "fresh") (codes "steps") ≡ true = (bytes_eq-Decides (codes "fresh") (codes "steps")).1 same in
+    let unlike : bytes_eq (codes "fresh") (codes "steps") ≡ false = refl in
+    true-not_false (sym alike ∙ unlike)
+
+show-not_steps : codes "show" ≡ codes "steps" → ⊥
+show-not_steps same =
+    let alike : bytes_eq (codes "show") (codes "steps") ≡ true = (bytes_eq-Decides (codes "show") (codes "steps")).1 same in
+    let unlike : bytes_eq (codes "show") (codes "steps") ≡ false = refl in
+    true-not_false (sym alike ∙ unlike)
+
+check-not_steps : codes "check" ≡ codes "steps" → ⊥
+check-not_steps same =
+    let alike : bytes_eq (codes "check") (codes "steps") ≡ true = (bytes_eq-Decides (codes "check") (codes "steps")).1 same in
+    let unlike : bytes_eq (codes "check") (codes "steps") ≡ false = refl in
+    true-not_false (sym alike ∙ unlike)
+
 -- words are one form
 pub form-one : (words : List (List ℕ)) (one two : Form) → IsForm words one → IsForm words two → one ≡ two
 form-one words (Format one) (Format two) first second = ap Format (of_layout-one (codes "format") words one two first second)
@@ -72,3 +96,12 @@ form-one words (Fresh one) Check first second = absurd (fresh-not_check (verb-on
 form-one words Check (Fresh two) first second = absurd (fresh-not_check (verb-one _ _ words _ _ second.file first))
 form-one words Show Check first second = absurd (show-not_check (verb-one _ _ words _ _ first second))
 form-one words Check Show first second = absurd (show-not_check (verb-one _ _ words _ _ second first))
+form-one words Steps Steps first second = λ i. Steps
+form-one words (Format one) Steps first second = absurd (format-not_steps (verb-one _ _ words _ _ first.file second))
+form-one words Steps (Format two) first second = absurd (format-not_steps (verb-one _ _ words _ _ second.file first))
+form-one words (Fresh one) Steps first second = absurd (fresh-not_steps (verb-one _ _ words _ _ first.file second))
+form-one words Steps (Fresh two) first second = absurd (fresh-not_steps (verb-one _ _ words _ _ second.file first))
+form-one words Show Steps first second = absurd (show-not_steps (verb-one _ _ words _ _ first second))
+form-one words Steps Show first second = absurd (show-not_steps (verb-one _ _ words _ _ second first))
+form-one words Check Steps first second = absurd (check-not_steps (verb-one _ _ words _ _ first second))
+form-one words Steps Check first second = absurd (check-not_steps (verb-one _ _ words _ _ second first))

@@ -1,62 +1,85 @@
 -- A lead, over the program's world.
-use Rattle.std.proofs.Common.{◌≡◌, ℕ, zero, suc, ◌+◌, ◌==◌, ◌<◌, ◌≤◌, Bool, true, false, cond, ◌||◌, List, [], ◌∷◌, length, map, take, drop, Some, inl, inr, refl, sym, ◌∙◌, ap, subst, arith}
-use Rattle.std.specs.Prelude.{slice_get}
-use Rattle.std.specs.List.{list_any}
+use Rattle.std.proofs.Common.{◌≡◌, ◌≢◌, ℕ, zero, suc, ◌+◌, ◌==◌, ◌<◌, ◌≤◌, Bool, true, false, cond, ◌||◌, ◌⊎◌, List, [], ◌∷◌, ◌++◌, length, map, take, drop, Some, None, inl, inr, refl, sym, ◌∙◌, ap, subst, arith}
+use Rattle.std.specs.Prelude.{slice_get, slice_index_or}
+use Rattle.std.specs.List.{All, AllPairs, list_any}
+use Rattle.std.proofs.lemmas.Map.Made.{IsDistinct-from_AllPairs}
 use Rattle.std.proofs.lemmas.Bool.{cases_Bool}
-use Rattle.std.proofs.lemmas.Option.{slice_get_within}
-use Rattle.blob_store.specs.Stores.{AreWhole, Did, IsSound, Led, StoreStands, ledger_in, made_by}
-use Rattle.blob_store.specs.declared.store.Store.{Store as Mine}
+use Rattle.std.proofs.lemmas.Bool.Decides.{Decides-eqb}
+use Rattle.std.proofs.lemmas.List.{length-map}
+use Rattle.std.proofs.lemmas.Map.Steps.{length-le_from_distinct_below}
+use Rattle.std.proofs.lemmas.Option.{slice_get-get_or, slice_get_within}
+use Rattle.disk_model.specs.Disks.{Keeps, OnlyWrites}
 use Rattle.disk_model.specs.declared.disk.Disk.{Ghosts}
+use Rattle.disk_model.proofs.DiskLaws.{Keeps-none, Keeps-then}
 use Rattle.group_plan.specs.Plans.{committed, members_of, model_reply}
 use Rattle.group_plan.specs.declared.plan.Reply.{Reply as ReplyTo}
 use Rattle.store_model.specs.Answer as answer
 use Rattle.store_model.specs.Answer.{answer_text}
-use Rattle.store_model.specs.Group.{Member, Reply, commits_of, no_tally, reply_of}
+use Rattle.store_model.specs.Cost.{with_lead}
+use Rattle.store_model.specs.Group.{Member, Reply, commits_of, member_of, no_tally, reply_of, taken_blocks}
+use Rattle.store_model.specs.Images.{Wrote}
 use Rattle.store_model.specs.Judgement.{Ledger}
-use Rattle.std.proofs.lemmas.List.{length-map}
-use Rattle.txn.specs.Requests.{asked_of}
-use Rattle.blob_store.proofs.Members.{members-long}
 use Rattle.store_model.specs.Layout.{Layout}
+use Rattle.store_model.specs.Standing.{AllStand}
 use Rattle.store_model.specs.Store as model
 use Rattle.store_model.specs.Turn as turn
 use Rattle.store_model.specs.World as world
-use Rattle.store_model.specs.World.{Outcome, freed, group_in, lead, lead_queue, led}
+use Rattle.store_model.specs.World.{Outcome, freed, group_in, idle, lead, lead_queue, led}
+use Rattle.txn.specs.Requests.{asked_of}
 use Rattle.txn.specs.declared.request.Request.{Request}
+use Rattle.vault.specs.Leads.{Costs, IsLeadPage, Led, MayHaveWritten, StoreStands, ledger_in}
+use Rattle.vault.specs.Pours.{AreWhole, made_by}
+use Rattle.vault.specs.Vaults.{IsVault}
+use Rattle.vault.specs.declared.memory.Memory.{Memory}
+use Rattle.vault.specs.declared.vault.Vault.{Vault}
 use Rattle.blob_steps.specs.Sessions.{SessionStands, StageStands}
-use Rattle.blob_steps.specs.Steps.{AreDistinct, CameTo, HaveBegun, IsWorld, Replying, RequestStands, WorldStands, is_of, replies_text, stage_left}
+use Rattle.blob_steps.specs.Steps.{AreDistinct, AreSessions, CameTo, Did, HaveBegun, IsWorld, Replying, RequestStands, WorldStands, is_of, replies_text, stage_left}
 use Rattle.blob_steps.specs.declared.session.Session.{Session}
 use Rattle.blob_steps.specs.declared.session.Stage.{Stage}
 use Rattle.blob_steps.specs.declared.session.Stage.TheVariants.{Free}
 use Rattle.blob_steps.specs.declared.world.World.{World}
-use Rattle.blob_steps.proofs.Doing.{Did-none}
+use Rattle.blob_steps.proofs.Answering.{Did-none}
 use Rattle.blob_steps.proofs.Members.{AreOf, AreOf-members, group-stands, made-members, members-of, members-text}
 use Rattle.blob_steps.proofs.Turning.{same-number}
 
+-- the sessions of requests
+abbrev pub sessions_of : List Request → List ℕ
+sessions_of queue = map (λ (r : Request). r.session) queue
+
+-- the session of one request more
+pub sessions-next : (queue : List Request) (i : ℕ) (request : Request) (old new : List ℕ) → slice_get queue i ≡ Some request → old ≡ sessions_of (take i queue)
+    → new ≡ old ++ request.session ∷ [] → new ≡ sessions_of (take (i + 1) queue)
+sessions-next queue i request old new there so_far new_is =
+    new_is ∙ ap (λ (ns : List ℕ). ns ++ request.session ∷ []) so_far
+    ∙ sym (ap (λ (k : ℕ). sessions_of (take k queue)) (one-more i) ∙ sessions-more queue i there) where
+      one-more : (k : ℕ) → k + 1 ≡ suc k
+      one-more k = omega arith
+
+      sessions-more : (rs : List Request) (k : ℕ) → slice_get rs k ≡ Some request → sessions_of (take (suc k) rs) ≡ sessions_of (take k rs) ++ request.session ∷ []
+      sessions-more [] k is = absurd (cc is)
+      sessions-more (r ∷ rs) zero is = let same : r ≡ request = cc is in ap (λ (x : Request). x.session ∷ []) same
+      sessions-more (r ∷ rs) (suc k) is = ap (λ (ns : List ℕ). r.session ∷ ns) (sessions-more rs k is)
+
 -- a lead of requests is that of their group
-lead-is : (layout : Layout) (now : world.World) (queue : List Request) → now.queue ≡ map (λ (r : Request). r.session) queue → 0 < length queue
+lead-is : (layout : Layout) (now : world.World) (queue : List Request) → now.queue ≡ sessions_of queue → 0 < length queue
     → lead layout now ≡ led now (group_in layout now)
 lead-is layout now [] is some = absurd (omega (arith, some))
 lead-is layout now (q ∷ queue) is some = ap (lead_queue layout now) is
 
 -- a lead of none is idle
-pub lead-none : {D : Type 0} (g : Ghosts D) (mine : World) (now : world.World) (text : List ℕ) (disk : D) → WorldStands mine now → mine.queue ≡ [] → text ≡ answer_text answer.Idle
-    → CameTo g now (lead mine.store.layout now) text mine disk disk
-lead-none g mine now text disk is none text_is =
-    let empty : now.queue ≡ [] = is.queue ∙ ap (map (λ (r : Request). r.session)) none in
-    subst (λ (outcome : Outcome). CameTo g now outcome text mine disk disk) (sym (ap (lead_queue mine.store.layout now) empty)) (record {
+pub lead-none : {D : Type 0} (g : Ghosts D) (mine : World D) (now : world.World) (text : List ℕ) → WorldStands mine now → mine.queue ≡ [] → text ≡ answer_text answer.Idle
+    → CameTo g now (lead mine.vault.memory.layout now) text mine mine
+lead-none g mine now text is none text_is =
+    let empty : now.queue ≡ [] = is.queue ∙ ap sessions_of none in
+    subst (λ (outcome : Outcome). CameTo g now outcome text mine mine) (sym (ap (lead_queue mine.vault.memory.layout now) empty)) (record {
       stands = is;
-      did = Did-none g mine.store.layout now.store.objects disk;
+      did = Did-none g now.store (idle now) mine mine (record { none = refl; stays = refl; same = refl }) refl;
       text_is = λ told stand. text_is;
     })
 
 -- there are as many replies as members
 pub replies-count : (replies : List ReplyTo) (members : List Member) → map model_reply replies ≡ map reply_of members → length replies ≡ length members
 replies-count replies members same = sym (length-map replies model_reply) ∙ ap (λ (rs : List Reply). length rs) same ∙ length-map members reply_of
-
--- and no more than there are requests
-pub replies-few : (ledger : Ledger) (queue : List Request) (replies : List ReplyTo) → map model_reply replies ≡ map reply_of (members_of ledger queue) → length replies ≤ length queue
-replies-few ledger queue replies same =
-    omega (arith, replies-count replies (members_of ledger queue) same, members-long ledger (no_tally ledger) (map asked_of queue), length-map queue asked_of)
 
 -- an element of what is left behind the first ones
 none-plus : (i : ℕ) → zero + i ≡ i
@@ -86,26 +109,84 @@ get-some [] i less = absurd (omega (arith, less))
 get-some (x ∷ xs) zero less = (x, refl)
 get-some (x ∷ xs) (suc i) less = get-some xs i (omega (arith, less))
 
--- the request of a session that is one of some
-of-found : (number : ℕ) (requests : List Request) → is_of number requests ≡ true → (i : ℕ) × ((request : Request) × ((slice_get requests i ≡ Some request) × (number ≡ request.session)))
+-- the request whose session stands at a place
+get-session : (queue : List Request) (i number : ℕ) → slice_get (sessions_of queue) i ≡ Some number → (request : Request) × (slice_get queue i ≡ Some request) × (request.session ≡ number)
+get-session [] i number is = absurd (cc is)
+get-session (q ∷ queue) zero number is = (q, refl, cc is)
+get-session (q ∷ queue) (suc i) number is = get-session queue i number is
+
+-- where a number stands that is one of some
+of-found : (number : ℕ) (numbers : List ℕ) → is_of number numbers ≡ true → (i : ℕ) × (slice_get numbers i ≡ Some number)
 of-found number [] is = absurd (cc is)
-of-found number (r ∷ requests) is = elim (cases_Bool (number == r.session)) [
-  | inl here ↦ (0, (r, (refl, same-number number r.session here)))
+of-found number (n ∷ numbers) is = elim (cases_Bool (number == n)) [
+  | inl here ↦ (0, ap Some (sym (same-number number n here)))
   | inr other ↦
-      (let rest : is_of number requests ≡ true = sym (ap (λ (b : Bool). b || is_of number requests) other) ∙ is in
-      let found = of-found number requests rest in
+      (let rest : is_of number numbers ≡ true = sym (ap (λ (b : Bool). b || is_of number numbers) other) ∙ is in
+      let found = of-found number numbers rest in
       (suc found.0, found.1))
 ]
 
 -- the session of a request behind the first ones is none of theirs
-pub not-of : (queue : List Request) (n i : ℕ) (request : Request) → AreDistinct queue → slice_get queue (n + i) ≡ Some request → is_of request.session (take n queue) ≡ false
-not-of queue n i request distinct is = elim (cases_Bool (is_of request.session (take n queue))) [
+pub not-of : (queue : List Request) (n i : ℕ) (request : Request) → AreDistinct queue → slice_get queue (n + i) ≡ Some request
+    → is_of request.session (take n (sessions_of queue)) ≡ false
+not-of queue n i request distinct is = elim (cases_Bool (is_of request.session (take n (sessions_of queue)))) [
   | inl here ↦
-      (let found = of-found request.session (take n queue) here in
-      let at = get-take queue n found.0 found.1.0 found.1.1.0 in
-      absurd (distinct found.0 (n + i) found.1.0 request (omega (arith, at.1)) at.0 is (sym found.1.1.1)))
+      (let found = of-found request.session (take n (sessions_of queue)) here in
+      let at = get-take (sessions_of queue) n found.0 request.session found.1 in
+      let one = get-session queue found.0 request.session at.0 in
+      absurd (distinct found.0 (n + i) one.0 request (omega (arith, at.1)) one.1 is one.2))
   | inr other ↦ other
 ]
+
+-- requests of different sessions, of which there are sixteen, are no more than these
+distinct-sessions : (queue : List Request) → AreDistinct queue → AllPairs (λ (x y : ℕ). x ≢ y) (sessions_of queue)
+distinct-sessions queue apart i j d less within =
+    let here = get-session queue i (slice_index_or (sessions_of queue) i d) (slice_get-get_or (sessions_of queue) i d (omega (arith, less, within))) in
+    let there = get-session queue j (slice_index_or (sessions_of queue) j d) (slice_get-get_or (sessions_of queue) j d within) in
+    λ same. apart i j here.0 there.0 less here.1 there.1 (here.2 ∙ same ∙ sym there.2)
+
+pub few-requests : (queue : List Request) → AreDistinct queue → ((i : ℕ) (request : Request) → slice_get queue i ≡ Some request → request.session < 16) → length queue ≤ 16
+few-requests queue apart below =
+    omega (
+      arith,
+      length-map queue (λ (r : Request). r.session),
+      length-le_from_distinct_below (sessions_of queue) 16 (IsDistinct-from_AllPairs Decides-eqb (sessions_of queue) (distinct-sessions queue apart))
+          (λ number is.
+          let found = of-found number (sessions_of queue) is in
+          let one = get-session queue found.0 number found.1 in
+          omega (arith, below found.0 one.0 one.1, one.2)),
+    )
+
+-- the session of each request is one of the sixteen
+pub session-below : {D : Type 0} (g : Ghosts D) (mine : World D) → IsWorld g mine → (i : ℕ) (request : Request) → slice_get mine.queue i ≡ Some request
+    → request.session < 16
+session-below g mine sound i request there =
+    let waits = sound.wait i request there in
+    omega (arith, slice_get_within mine.sessions.items request.session waits.0 waits.1, sound.sixteen)
+
+pub sessions-below : {D : Type 0} (g : Ghosts D) (mine : World D) (numbers : List ℕ) → IsWorld g mine → numbers ≡ sessions_of mine.queue
+    → All (λ (number : ℕ). number < 16) numbers
+sessions-below g mine numbers sound is =
+    subst (All (λ (number : ℕ). number < 16)) (sym is) (λ k d less.
+    let number : ℕ = slice_index_or (sessions_of mine.queue) k d in
+    let here = get-session mine.queue k number (slice_get-get_or (sessions_of mine.queue) k d less) in
+    omega (arith, session-below g mine sound k here.0 here.1, here.2))
+
+-- members for the first requests of a queue, whatever they are judged by
+abbrev pub some_members : Ledger → ℕ → List Request → List Member
+some_members ledger zero queue = []
+some_members ledger (suc n) [] = []
+some_members ledger (suc n) (q ∷ queue) = member_of ledger (no_tally ledger) (asked_of q) ∷ some_members ledger n queue
+
+pub AreOf-some : (ledger : Ledger) (n : ℕ) (queue : List Request) → AreOf queue (some_members ledger n queue)
+AreOf-some ledger zero queue = tt
+AreOf-some ledger (suc n) [] = tt
+AreOf-some ledger (suc n) (q ∷ queue) = (refl, AreOf-some ledger n queue)
+
+pub length-some_members : (ledger : Ledger) (n : ℕ) (queue : List Request) → n ≤ length queue → n ≡ length (some_members ledger n queue)
+length-some_members ledger zero queue few = refl
+length-some_members ledger (suc n) [] few = absurd (omega (arith, few))
+length-some_members ledger (suc n) (q ∷ queue) few = ap suc (length-some_members ledger n queue (omega (arith, few)))
 
 -- the sessions after a lead, freed or not
 freed-yes : (sessions : ℕ → turn.Session) (members : List Member) (number : ℕ) → list_any (λ (m : Member). number == m.asked.session) members ≡ true
@@ -124,70 +205,78 @@ stands-so one stage begun number theirs stage_is begun_is same stands = record {
   stage = subst (λ (s : Stage). StageStands s number one.begun theirs.stage) (sym stage_is) (subst (λ (n : ℕ). StageStands stage number n theirs.stage) (sym begun_is) stands);
 }
 
--- A group was led: the program's world before it, with the store after it, and behind its replies.
-pub record HasLed (mine middle new : World) (members : List Member) (n : ℕ) : Type 0 where
-  pub sound : IsWorld mine
+-- A group was led: the program's world before it, with the vault after it and without its requests, and behind its replies.
+pub record HasLed {D : Type 0} (g : Ghosts D) (mine middle new : World D) (members : List Member) (n : ℕ) : Type 0 where
+  pub sound : IsWorld g mine
   pub sessions : middle.sessions ≡ mine.sessions
-  pub queue : middle.queue ≡ mine.queue
-  pub layout : middle.store.layout ≡ mine.store.layout
-  pub store : IsSound middle.store
+  pub queue : middle.queue ≡ drop n mine.queue
+  pub layout : middle.vault.memory.layout ≡ mine.vault.memory.layout
+  pub vault : IsVault g middle.vault.disk middle.vault.memory middle.vault.shut
+  pub unshut : middle.vault.shut ≡ None
   pub are : AreOf mine.queue members
   pub count : n ≡ length members
-  pub replied : Replying n middle new
+  pub replied : Replying n (sessions_of mine.queue) middle new
 
-module _ (mine middle new : World) (members : List Member) (n : ℕ) (done : HasLed mine middle new members n) where
+module _ {D : Type 0} (g : Ghosts D) (mine middle new : World D) (members : List Member) (n : ℕ) (done : HasLed g mine middle new members n) where
   queue-left : new.queue ≡ drop n mine.queue
-  queue-left = done.replied.queue ∙ ap (λ (rs : List Request). drop n rs) done.queue
+  queue-left = done.replied.queue ∙ done.queue
 
   -- what is known of each session
   session-was : (number : ℕ) (one : Session) → slice_get new.sessions.items number ≡ Some one
-      → (was : Session) × (slice_get mine.sessions.items number ≡ Some was) × (one.begun ≡ was.begun) × (one.stage ≡ stage_left (is_of number (take n mine.queue)) was.stage)
+      → (was : Session) × (slice_get mine.sessions.items number ≡ Some was) × (one.begun ≡ was.begun)
+      × (one.stage ≡ stage_left (is_of number (take n (sessions_of mine.queue))) was.stage)
   session-was number one is =
-      let before = done.replied.sessions number one is in (
-        before.0,
-        ap (λ xs. slice_get xs.items number) (sym done.sessions) ∙ before.1,
-        before.2,
-        before.3 ∙ ap (λ (rs : List Request). stage_left (is_of number (take n rs)) before.0.stage) done.queue,
-      )
+      let before = done.replied.sessions number one is in
+      (before.0, ap (λ xs. slice_get xs.items number) (sym done.sessions) ∙ before.1, before.2, before.3)
 
-  any-of : (number : ℕ) → is_of number (take n mine.queue) ≡ list_any (λ (m : Member). number == m.asked.session) members
-  any-of number = ap (λ (k : ℕ). is_of number (take k mine.queue)) done.count ∙ members-of number mine.queue members done.are
+  any-of : (number : ℕ) → is_of number (take n (sessions_of mine.queue)) ≡ list_any (λ (m : Member). number == m.asked.session) members
+  any-of number = ap (λ (k : ℕ). is_of number (take k (sessions_of mine.queue))) done.count ∙ members-of number mine.queue members done.are
 
   -- a request that is left
   request-left : (i : ℕ) (request : Request) → slice_get new.queue i ≡ Some request → slice_get mine.queue (n + i) ≡ Some request
   request-left i request is = get-drop mine.queue n i request (ap (λ (rs : List Request). slice_get rs i) (sym queue-left) ∙ is)
 
-  left-alone : (i : ℕ) (request : Request) → slice_get new.queue i ≡ Some request → is_of request.session (take n mine.queue) ≡ false
+  left-alone : (i : ℕ) (request : Request) → slice_get new.queue i ≡ Some request → is_of request.session (take n (sessions_of mine.queue)) ≡ false
   left-alone i request is = not-of mine.queue n i request done.sound.distinct (request-left i request is)
 
-  -- the program's world stands behind the replies
-  pub led-stands : (now : world.World) → WorldStands mine now → StoreStands middle.store (led now members).world.store → WorldStands new (led now members).world
-  led-stands now is store = record {
-    store = subst (λ (s : Mine). StoreStands s (led now members).world.store) (sym done.replied.store) store;
+  -- the sessions behind the replies, whatever the store
+  pub led-sessions : (sessions : ℕ → turn.Session) → AreSessions mine sessions → AreSessions new (freed sessions members)
+  led-sessions sessions are = record {
     sessions = λ number one there.
         let was = session-was number one there in
-        let before : SessionStands was.0 number (now.sessions number) = is.sessions number was.0 was.1 in
-        elim (cases_Bool (is_of number (take n mine.queue))) [
+        let before : SessionStands was.0 number (sessions number) = are.sessions number was.0 was.1 in
+        elim (cases_Bool (is_of number (take n (sessions_of mine.queue)))) [
           | inl here ↦
-              subst (SessionStands one number) (sym (freed-yes now.sessions members number (sym (any-of number) ∙ here)))
-              (stands-so one Free was.0.begun number (record { begun = (now.sessions number).begun; stage = turn.Free })
+              subst (SessionStands one number) (sym (freed-yes sessions members number (sym (any-of number) ∙ here)))
+              (stands-so one Free was.0.begun number (record { begun = (sessions number).begun; stage = turn.Free })
               (was.3 ∙ ap (λ (b : Bool). stage_left b was.0.stage) here) was.2 before.begun refl)
           | inr other ↦
-              subst (SessionStands one number) (sym (freed-no now.sessions members number (sym (any-of number) ∙ other)))
-              (stands-so one was.0.stage was.0.begun number (now.sessions number) (was.3 ∙ ap (λ (b : Bool). stage_left b was.0.stage) other) was.2 before.begun before.stage)
+              subst (SessionStands one number) (sym (freed-no sessions members number (sym (any-of number) ∙ other)))
+              (stands-so one was.0.stage was.0.begun number (sessions number) (was.3 ∙ ap (λ (b : Bool). stage_left b was.0.stage) other) was.2 before.begun before.stage)
         ];
-    queue = ap (λ (k : ℕ). drop k now.queue) (sym done.count) ∙ ap (λ (ns : List ℕ). drop n ns) is.queue
-        ∙ drop-map (λ (r : Request). r.session) n mine.queue ∙ ap (map (λ (r : Request). r.session)) (sym queue-left);
     requests = λ i request there.
-        subst (RequestStands request) (sym (freed-no now.sessions members request.session (sym (any-of request.session) ∙ left-alone i request there)))
-        (is.requests (n + i) request (request-left i request there));
+        subst (RequestStands request) (sym (freed-no sessions members request.session (sym (any-of request.session) ∙ left-alone i request there)))
+        (are.requests (n + i) request (request-left i request there));
   }
 
+  -- the program's world stands behind the replies
+  pub led-stands : (now : world.World) → WorldStands mine now → StoreStands middle.vault.memory (led now members).world.store → WorldStands new (led now members).world
+  led-stands now is store =
+      let after = led-sessions now.sessions (record { sessions = is.sessions; requests = is.requests }) in
+      record {
+        store = subst (λ (v : Vault D). StoreStands v.memory (led now members).world.store) (sym done.replied.vault) store;
+        sessions = after.sessions;
+        queue = ap (λ (k : ℕ). drop k now.queue) (sym done.count) ∙ ap (λ (ns : List ℕ). drop n ns) is.queue
+            ∙ drop-map (λ (r : Request). r.session) n mine.queue ∙ ap sessions_of (sym queue-left);
+        requests = after.requests;
+      }
+
   -- and it is a world
-  pub led-sound : (now : world.World) → WorldStands new now → IsWorld new
-  led-sound now stands = record {
-    some = (now, stands);
-    store = subst IsSound (sym done.replied.store) done.store;
+  pub led-sound : IsWorld g new
+  led-sound = record {
+    some = (freed done.sound.some.0 members, led-sessions done.sound.some.0 done.sound.some.1);
+    vault = subst (λ (v : Vault D). IsVault g v.disk v.memory v.shut) (sym done.replied.vault) done.vault;
+    unshut = ap (λ (v : Vault D). v.shut) done.replied.vault ∙ done.unshut;
     sixteen = done.replied.sixteen;
     whole = subst AreWhole (sym queue-left) (whole-left mine.queue n done.sound.whole);
     wait = λ i request there.
@@ -211,31 +300,58 @@ module _ (mine middle new : World) (members : List Member) (n : ℕ) (done : Has
   pub led-begun : (k : ℕ) → HaveBegun k mine → HaveBegun (k + 1) new
   led-begun k have number one is = let was = session-was number one is in omega (arith, was.2, have number was.0 was.1)
 
-module _ {D : Type 0} (g : Ghosts D) (mine middle new : World) (replies : List ReplyTo) (old disk : D) (sound : IsWorld mine) where
+-- what a lead may have written, it wrote by calls that keep what calls keep
+pub lead-keeps : {D : Type 0} (g : Ghosts D) (before : Memory) (queue : List Request) (members : List Member) (old new : D)
+    → (new ≡ old) ⊎ MayHaveWritten g before queue members old new → Keeps g old new
+lead-keeps {D = D} g before queue members old new (inl same) = subst (λ (disk : D). Keeps g old disk) (sym same) (Keeps-none g old)
+lead-keeps {D = D} g before queue members old new (inr wrote) =
+    let windows = wrote.windows in
+    let first = windows.first in
+    Keeps-then g old windows.mid new (Keeps-then g old first.base windows.mid first.turned.keeps first.wrote.keeps) (behind windows.second) where
+      behind : {P : Type 0} {pages : ℕ → Type 0} {mid : D} → (new ≡ mid) ⊎ (P × OnlyWrites g pages mid new) → Keeps g mid new
+      behind {mid = mid} (inl same) = subst (λ (disk : D). Keeps g mid disk) (sym same) (Keeps-none g mid)
+      behind (inr (settled, written)) = written.keeps
+
+module _ {D : Type 0} (g : Ghosts D) (mine middle new : World D) (replies : List ReplyTo) where
   -- the group of the program
   abbrev pub group_members : List Member
-  group_members = members_of (ledger_in mine.store) mine.queue
+  group_members = members_of (ledger_in mine.vault.memory) mine.queue
 
-  -- what the store says of the lead
-  module _ (now : world.World) (is : WorldStands mine now) (led_is : Led g old disk mine.store.layout now.store mine.queue group_members replies middle.store) where
+  -- what the vault says of the lead
+  module _ (now : world.World) (is : WorldStands mine now)
+      (led_is : Led g mine.vault.disk middle.vault.disk mine.vault.memory now.store mine.queue group_members replies middle.vault.memory) where
     made-now : made_by now.store (committed mine.queue group_members) ≡ (led now group_members).world.store
-    made-now = made-members now.sessions now.store mine.queue group_members (AreOf-members (ledger_in mine.store) (no_tally (ledger_in mine.store)) mine.queue) is.requests
+    made-now =
+        made-members now.sessions now.store mine.queue group_members
+        (AreOf-members (ledger_in mine.vault.memory) (no_tally (ledger_in mine.vault.memory)) mine.queue) is.requests
 
-    outcome-is : 0 < length mine.queue → lead mine.store.layout now ≡ led now group_members
-    outcome-is some =
-        lead-is mine.store.layout now mine.queue is.queue some
-        ∙ ap (led now) (group-stands mine.store mine.queue now sound.store.pages is.store sound.whole is.queue is.requests)
+    outcome-is : AreWhole mine.queue → 0 < length mine.queue → lead mine.vault.memory.layout now ≡ led now group_members
+    outcome-is whole some =
+        lead-is mine.vault.memory.layout now mine.queue is.queue some
+        ∙ ap (led now) (group-stands mine.vault.memory mine.queue now is.store whole is.queue is.requests)
 
-    pub stands-led : (n : ℕ) → HasLed mine middle new group_members n → WorldStands new (led now group_members).world
-    stands-led n done = led-stands mine middle new group_members n done now is (subst (StoreStands middle.store) made-now led_is.stands)
+    pub stands-led : (n : ℕ) → HasLed g mine middle new group_members n → WorldStands new (led now group_members).world
+    stands-led n done = led-stands g mine middle new group_members n done now is (subst (StoreStands middle.vault.memory) made-now led_is.stands)
 
-    pub came-led : (n : ℕ) (text : List ℕ) → HasLed mine middle new group_members n → 0 < length mine.queue → text ≡ replies_text mine.queue replies
-        → CameTo g now (lead mine.store.layout now) text new old disk
+    -- what it did, with the vault after it
+    did-led : new.vault ≡ middle.vault → Did g now.store (led now group_members) mine new
+    did-led same = record {
+      objects = λ told from stand.
+          subst (λ (v : Vault D). AllStand from (g.story v.disk).reads mine.vault.memory.layout (led now group_members).world.store.objects) (sym same)
+          (subst (λ (s : model.Store). AllStand from (g.story middle.vault.disk).reads mine.vault.memory.layout s.objects) made-now (led_is.objects told from stand));
+      wrote = λ told.
+          subst (λ (v : Vault D). Wrote (IsLeadPage mine.vault.memory.layout (taken_blocks (commits_of group_members))) (g.story mine.vault.disk) (g.story v.disk)) (sym same)
+          (led_is.wrote.wrote told);
+      costs = λ cost gate.
+          subst (λ (v : Vault D). Costs g cost (with_lead now.store (commits_of group_members) cost) mine.vault.disk v.disk v.memory) (sym same)
+          (led_is.costs cost gate);
+    }
+
+    pub came-led : (n : ℕ) (text : List ℕ) → HasLed g mine middle new group_members n → 0 < length mine.queue → text ≡ replies_text (sessions_of mine.queue) replies
+        → CameTo g now (lead mine.vault.memory.layout now) text mine new
     came-led n text done some text_is =
-        let layout_is : new.store.layout ≡ mine.store.layout = ap (λ (s : Mine). s.layout) done.replied.store ∙ done.layout in
-        subst (λ (outcome : Outcome). CameTo g now outcome text new old disk) (sym (outcome-is some)) (record {
+        subst (λ (outcome : Outcome). CameTo g now outcome text mine new) (sym (outcome-is done.sound.whole some)) (record {
           stands = stands-led n done;
-          did = subst (λ (l : Layout). Did g l now.store.objects (led now group_members).world.store.objects (commits_of group_members) old disk) (sym layout_is)
-              (subst (λ (s : model.Store). Did g mine.store.layout now.store.objects s.objects (commits_of group_members) old disk) made-now led_is.did);
+          did = did-led done.replied.vault;
           text_is = λ told stand. text_is ∙ members-text mine.queue group_members replies done.are led_is.replies_are;
         })

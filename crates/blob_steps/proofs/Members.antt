@@ -9,7 +9,6 @@ use Rattle.store_model.specs.Answer as answer
 use Rattle.store_model.specs.Answer.{answer_text}
 use Rattle.store_model.specs.Group.{Commit, Member, Reply, commit_by, commits_of, does_touch, member_of, members_from, no_tally, reply_of, tally_after}
 use Rattle.store_model.specs.Judgement.{Asked, Judgement, Ledger, Tally, judge}
-use Rattle.store_model.specs.Layout.{data_pages}
 use Rattle.store_model.specs.Placing.{Need, new_place}
 use Rattle.store_model.specs.Store as model
 use Rattle.store_model.specs.Transaction.{apply}
@@ -19,9 +18,10 @@ use Rattle.store_model.specs.World.{group_in, needs_of, reply_line, reply_text, 
 use Rattle.txn.specs.Requests.{asked_of, transaction_of as requested}
 use Rattle.txn.specs.Txns.{NoAppends}
 use Rattle.txn.specs.declared.request.Request.{Request}
-use Rattle.blob_store.specs.Stores.{AreWhole, StoreStands, ledger_in, made_by, made_one}
-use Rattle.blob_store.specs.declared.store.Store.{Store as Mine}
-use Rattle.blob_store.proofs.Ledgers.{asked-stands, ledger-stands}
+use Rattle.vault.specs.Leads.{StoreStands, ledger_in}
+use Rattle.vault.specs.Pours.{AreWhole, made_by, made_one}
+use Rattle.vault.specs.declared.memory.Memory.{Memory}
+use Rattle.blob_steps.proofs.Ledgers.{asked-stands, ledger-stands}
 use Rattle.blob_steps.specs.Steps.{RequestStands, is_of, replies_text}
 
 -- these members are of the first requests of a queue
@@ -71,7 +71,7 @@ made-members sessions store (q ∷ queue) (m ∷ members) are stand =
 
 -- the replies to them are printed as the definitions print them
 pub members-text : (queue : List Request) (members : List Member) (replies : List ReplyTo) → AreOf queue members → map model_reply replies ≡ map reply_of members
-    → replies_text queue replies ≡ flat_map reply_text members
+    → replies_text (map (λ (r : Request). r.session) queue) replies ≡ flat_map reply_text members
 members-text [] [] [] are same = refl
 members-text [] [] (r ∷ replies) are same = refl
 members-text (q ∷ queue) [] [] are same = refl
@@ -87,7 +87,7 @@ members-text (q ∷ queue) (m ∷ members) (r ∷ replies) are same =
 
 -- a session is that of a member where it is that of a first request
 pub members-of : (number : ℕ) (queue : List Request) (members : List Member) → AreOf queue members
-    → is_of number (take (length members) queue) ≡ list_any (λ (member : Member). number == member.asked.session) members
+    → is_of number (take (length members) (map (λ (r : Request). r.session) queue)) ≡ list_any (λ (member : Member). number == member.asked.session) members
 members-of number [] [] are = refl
 members-of number (q ∷ queue) [] are = refl
 members-of number [] (m ∷ members) are = absurd are
@@ -113,9 +113,9 @@ requests-asked store sessions (q ∷ queue) whole stand = λ i.
     ∷ requests-asked store sessions queue (λ k d less. whole (suc k) d (omega (arith, less))) (λ k request is. stand (suc k) request is) i
 
 -- the group of the program is that of the definitions
-pub group-stands : (mine : Mine) (queue : List Request) (now : world.World) → mine.space.pages ≡ data_pages mine.layout → StoreStands mine now.store → AreWhole queue
+pub group-stands : (mine : Memory) (queue : List Request) (now : world.World) → StoreStands mine now.store → AreWhole queue
     → now.queue ≡ map (λ (r : Request). r.session) queue → AllRequested now.sessions queue → group_in mine.layout now ≡ members_of (ledger_in mine) queue
-group-stands mine queue now pages stands whole queue_is stand =
-    ap (λ (ledger : Ledger). members_from ledger (no_tally ledger) (world.requests_of now)) (sym (ledger-stands mine now.store pages stands))
+group-stands mine queue now stands whole queue_is stand =
+    ap (λ (ledger : Ledger). members_from ledger (no_tally ledger) (world.requests_of now)) (sym (ledger-stands mine now.store stands))
     ∙ ap (λ (numbers : List ℕ). members_from (ledger_in mine) (no_tally (ledger_in mine)) (map (λ (number : ℕ). request_of now.store number (now.sessions number)) numbers)) queue_is
     ∙ ap (λ (all : List Asked). members_from (ledger_in mine) (no_tally (ledger_in mine)) all) (requests-asked now.store now.sessions queue whole stand)

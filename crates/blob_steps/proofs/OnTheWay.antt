@@ -1,9 +1,8 @@
 -- A run on the way, and its ends.
-use Rattle.std.proofs.Common.{◌≡◌, ℕ, ◌+◌, ◌≤◌, inl, inr, Bool, IsTrue, List, [], ◌∷◌, ◌++◌, length, min, Option, Some, None, refl, sym, ◌∙◌, ap, subst, arith, append_assoc, append-nil}
-use Rattle.std.specs.List.{flat_map, sum_by}
-use Rattle.std.proofs.lemmas.Grind.{flat_map-append}
-use Rattle.std.proofs.lemmas.List.Sums.{sum_by-append, sum_by-cons}
+use Rattle.std.proofs.Common.{◌≡◌, ℕ, ◌+◌, ◌≤◌, inl, inr, Bool, IsTrue, List, [], ◌∷◌, ◌++◌, Option, Some, None, Result, Ok, Err, refl, sym, ◌∙◌, ap, subst, arith, append_assoc}
 use Rattle.std.specs.Io.KnownBytes.{Appends, prepend_known}
+use Rattle.std.specs.FinMap.{FinMap}
+use Rattle.std.specs.Prelude.{MatchResult}
 use Rattle.std.proofs.KnownBytes.{Appends-trans, Appends-nil}
 use Rattle.blob_base.specs.Faults.{CameFrom}
 use Rattle.blob_report.specs.Ends.{EndsPrinting, TookFront}
@@ -12,35 +11,37 @@ use Rattle.blob_base.specs.declared.faults.IoFault.TheVariants.{Failed, OutOfMem
 use Rattle.disk_model.specs.declared.disk.Disk.{Ghosts}
 use Rattle.blob_script.specs.declared.status.Status.{Status}
 use Rattle.blob_script.specs.declared.status.Status.TheVariants as status
+use Rattle.blob_steps.specs.Faults.{ShowsDamageFault}
+use Rattle.blob_steps.specs.Forms.{IsDamageOfState}
+use Rattle.blob_steps.specs.Faults.{IsDamageAmong, IsUndamagedFault}
+use Rattle.blob_steps.specs.declared.fault.StoreFault.{StoreFault}
+use Rattle.blob_steps.specs.declared.fault.StoreFault.TheVariants as store_fault
 use Rattle.blob_steps.specs.declared.world.World.{World}
 use Rattle.blob_steps.specs.declared.line.LineFault.{LineFault}
 use Rattle.blob_steps.specs.declared.line.LineFault.TheVariants as fault
-use Rattle.blob_steps.specs.Going.{BadLine, EndsReading, EndsStep, Going, PlaysOn, TakesLine, after_lines, playing, reading_ending, step_ending}
-use Rattle.blob_steps.specs.Nexts.{IsUnbuilt}
+use Rattle.blob_steps.specs.Going.{BadLine, EndsReading, EndsStep, Going, GoingSo, PlaysOn, StartsOn, TakesLine, playing, reading_ending, step_ending}
+use Rattle.blob_steps.specs.Nexts.{IsNeverBuilt, IsUnbuilt}
 use Rattle.blob_steps.specs.Lines.{LineTaken, NoLine}
-use Rattle.blob_steps.specs.Runs.{Ended, IsUndamaged, MayCut, OnPlayed, PagesAre, Ran, ShowsDamage}
-use Rattle.blob_steps.specs.Steps.{CameTo, HaveBegun, WorldStands}
-use Rattle.blob_store.specs.Stores.{Did}
-use Rattle.blob_store.specs.Faults.{ShowsDamageFault}
-use Rattle.blob_store.specs.declared.fault.StoreFault.{StoreFault}
-use Rattle.blob_store.specs.declared.fault.StoreFault.TheVariants as store_fault
-use Rattle.store_model.specs.Cost.{Spent, content_pages, syncs_of}
-use Rattle.store_model.specs.Disk.{Calls}
+use Rattle.blob_steps.specs.Runs.{Ended, EndedSo, Grew, IsUndamaged, MayCut, OnPlayed, PagesAre, EndsAs, Ran, RestsAt, ShowsDamage}
+use Rattle.blob_steps.specs.Steps.{CameTo, Did, HaveBegun, IsWorld, WorldStands}
+use Rattle.store_model.specs.Cost.{Cost, Spent, with_line, with_lines}
 use Rattle.store_model.specs.World as model
-use Rattle.store_model.specs.Group.{Commit, taken_blocks}
-use Rattle.store_model.specs.World.{Outcome, world_over}
-use Rattle.store_model.specs.Placing.{new_blocks}
+use Rattle.store_model.specs.Group.{taken_blocks}
+use Rattle.store_model.specs.World.{Outcome}
 use Rattle.store_model.specs.Images.{Wrote}
 use Rattle.store_model.specs.Key.{key_order}
 use Rattle.store_model.specs.Layout.{Layout}
-use Rattle.store_model.specs.Play.{AtInputEnd, AtMalformed, AtUnbuilt, Played, PlayedLine, commits_in, line_play, play, play_lines, played_line, played_then, step_play, store_behind, taken_in, text_of}
-use Rattle.store_model.specs.Script.{Asks, Line, Malformed, Skipped, Step, line_at, lines_of}
-use Rattle.store_model.specs.Space.{Block, IsOwnedPage}
-use Rattle.store_model.specs.Standing.{AllStand}
-use Rattle.store_model.specs.Store.{Object, Store, empty_store}
-use Rattle.std.specs.FinMap.{FinMap}
+use Rattle.store_model.specs.Play.{AtInputEnd, AtMalformed, AtUnbuilt, PlayedLine, play, played_line, step_play, store_behind, taken_in, text_of}
+use Rattle.store_model.specs.Script.{Asks, Skipped, Step, lines_of}
+use Rattle.store_model.specs.Space.{Block}
+use Rattle.store_model.specs.Standing.{AllHeld, AllStand, BothStand, SameObjects}
+use Rattle.store_model.specs.State.{State}
+use Rattle.store_model.specs.Store.{Object, Store}
 use Rattle.store_model.proofs.ImageLaws.{wider, wrote_none, wrote_then}
-use Rattle.blob_steps.proofs.OwnedPages.{no-objects, page-behind, page-front}
+use Rattle.vault.specs.Leads.{Costs, IsLeadPage}
+use Rattle.vault.specs.declared.vault.Vault.{Vault}
+use Rattle.blob_steps.proofs.Plays.{EndsOn-here, EndsOn-next, EndsOn-skipped, PlaysOn-all, PlaysOn-front, PlaysOn-next, PlaysOn-skipped, end-bad, end-over, end-unbuilt, ends-alike, playing-bad, playing-unbuilt, store_behind-push, taken_in-push, taken_rest, text_of-push, with_lines-push}
+use Rattle.blob_steps.proofs.Resting.{AllHeld-stand, AllStand-held, lead-behind, lead-front, rests-at}
 
 -- a fault in reading a line
 pub EndsReading-fault : (one : LineFault) (number : ℕ) (left : Option (List ℕ)) (before now : ℕ) (frugal : Bool) → ((cause : IoFault) → one ≡ fault.Source cause → CameFrom cause before now frugal) → EndsReading (reading_ending one) number left before now
@@ -54,165 +55,89 @@ ShowsDamage-ending store_fault.Failed objects shows = tt
 ShowsDamage-ending store_fault.OutOfMemory objects shows = tt
 ShowsDamage-ending (store_fault.Damaged key link want got) objects shows = shows
 
--- one more line
-flat_map-push : {A B : Type 0} (f : A → List B) (xs : List A) (x : A) → flat_map f (xs ++ x ∷ []) ≡ flat_map f xs ++ f x
-flat_map-push f xs x = flat_map-append f xs (x ∷ []) ∙ ap (λ ys. flat_map f xs ++ ys) (append-nil (f x))
+-- a step that shows no damage ends the run with none
+pub undamaged-ending : (one : StoreFault) → IsUndamagedFault one → IsUndamaged (step_ending one)
+undamaged-ending store_fault.Failed whole = tt
+undamaged-ending store_fault.OutOfMemory whole = tt
+undamaged-ending (store_fault.Damaged key link want got) whole = absurd whole
 
-text_of-push : (lines : List PlayedLine) (line : PlayedLine) → text_of (lines ++ line ∷ []) ≡ text_of lines ++ line.text
-text_of-push lines line = flat_map-push (λ (l : PlayedLine). l.text) lines line
-
-commits_in-push : (lines : List PlayedLine) (line : PlayedLine) → commits_in (lines ++ line ∷ []) ≡ commits_in lines ++ line.commits
-commits_in-push lines line = flat_map-push (λ (l : PlayedLine). l.commits) lines line
-
-taken_in-push : (lines : List PlayedLine) (line : PlayedLine) → taken_in (lines ++ line ∷ []) ≡ taken_in lines ++ taken_blocks line.commits
-taken_in-push lines line =
-    ap taken_blocks (commits_in-push lines line)
-    ∙ flat_map-append (λ (commit : Commit). flat_map new_blocks commit.placed) (commits_in lines) line.commits
-
-store_behind-push : (start : Store) (lines : List PlayedLine) (line : PlayedLine) → store_behind start (lines ++ line ∷ []) ≡ line.store
-store_behind-push start [] line = refl
-store_behind-push start (one ∷ lines) line = store_behind-push one.store lines line
-
--- the play of what is left, where its first line asks for a step that has this outcome
-playing-step : (layout : Layout) (number : ℕ) (world : model.World) (line : List ℕ) (lines : List (List ℕ)) (step : Step) (outcome : Outcome)
-    → line_at number line ≡ Asks step → step_play layout world step ≡ Some outcome
-    → playing layout number world (line ∷ lines) ≡ after_lines (played_line outcome ∷ []) (playing layout (number + 1) outcome.world lines)
-playing-step layout number world line lines step outcome asks plays =
-    ap (λ (what : Line). line_play layout world number what (play_lines layout (number + 1) lines)) asks
-    ∙ ap (λ (found : Option Outcome). played_then number found (play_lines layout (number + 1) lines)) plays
-
--- where its verb isn't built
-playing-unbuilt : (layout : Layout) (number : ℕ) (world : model.World) (line : List ℕ) (lines : List (List ℕ)) (step : Step)
-    → line_at number line ≡ Asks step → step_play layout world step ≡ None → playing layout number world (line ∷ lines) ≡ record { lines = []; end = AtUnbuilt number }
-playing-unbuilt layout number world line lines step asks plays =
-    ap (λ (what : Line). line_play layout world number what (play_lines layout (number + 1) lines)) asks
-    ∙ ap (λ (found : Option Outcome). played_then number found (play_lines layout (number + 1) lines)) plays
-
--- where its first line is skipped
-playing-skipped : (layout : Layout) (number : ℕ) (world : model.World) (line : List ℕ) (lines : List (List ℕ)) → line_at number line ≡ Skipped
-    → playing layout number world (line ∷ lines) ≡ playing layout (number + 1) world lines
-playing-skipped layout number world line lines is =
-    ap (λ (what : Line). line_play layout world number what (play_lines layout (number + 1) lines)) is
-
--- where it is malformed
-playing-bad : (layout : Layout) (number : ℕ) (world : model.World) (line : List ℕ) (lines : List (List ℕ)) → line_at number line ≡ Malformed
-    → playing layout number world (line ∷ lines) ≡ record { lines = []; end = AtMalformed number }
-playing-bad layout number world line lines is =
-    ap (λ (what : Line). line_play layout world number what (play_lines layout (number + 1) lines)) is
-
--- some lines, and then more, before a play
-after_lines-twice : (one two : List PlayedLine) (played : Played) → after_lines one (after_lines two played) ≡ after_lines (one ++ two) played
-after_lines-twice one two played = ap (λ lines. record { lines = lines; end = played.end }) (sym (append_assoc one two played.lines))
-
--- what is left where a line was taken off a known script
-taken_rest : (script line : List ℕ) (left : Option (List ℕ)) → LineTaken (Some script) line left → (rest : List ℕ) × (left ≡ Some rest) × (lines_of script ≡ line ∷ lines_of rest)
-taken_rest script line None taken = absurd taken
-taken_rest script line (Some rest) taken = (rest, refl, taken)
-
--- where the first line asked for a step that has this outcome, what is left plays on behind it
-PlaysOn-next : (layout : Layout) (start : Store) (lines : List PlayedLine) (number : ℕ) (world : model.World) (first left rest : Option (List ℕ)) (step : Step) (outcome : Outcome)
-    → TakesLine number left rest (Asks step) → step_play layout world step ≡ Some outcome → PlaysOn layout start lines number world first left
-    → PlaysOn layout start (lines ++ played_line outcome ∷ []) (number + 1) outcome.world first rest
-PlaysOn-next layout start lines number world first left rest step outcome takes played plays script known =
-    let on = plays script known in
-    let taken : LineTaken (Some on.0) takes.line rest = subst (λ l. LineTaken l takes.line rest) on.1 takes.taken in
-    let behind = taken_rest on.0 takes.line rest taken in
-    let later : Played = playing layout (number + 1) outcome.world (lines_of behind.0) in (
-      behind.0,
-      behind.1,
-      sym (after_lines-twice lines (played_line outcome ∷ []) later)
-          ∙ ap (after_lines lines) (sym (playing-step layout number world takes.line (lines_of behind.0) step outcome takes.is played))
-          ∙ ap (λ ls. after_lines lines (playing layout number world ls)) (sym behind.2)
-          ∙ on.2,
-    )
-
--- where it was skipped
-PlaysOn-skipped : (layout : Layout) (start : Store) (lines : List PlayedLine) (number : ℕ) (world : model.World) (first left rest : Option (List ℕ))
-    → TakesLine number left rest Skipped → PlaysOn layout start lines number world first left → PlaysOn layout start lines (number + 1) world first rest
-PlaysOn-skipped layout start lines number world first left rest takes plays script known =
-    let on = plays script known in
-    let taken : LineTaken (Some on.0) takes.line rest = subst (λ l. LineTaken l takes.line rest) on.1 takes.taken in
-    let behind = taken_rest on.0 takes.line rest taken in (
-      behind.0,
-      behind.1,
-      ap (after_lines lines) (sym (playing-skipped layout number world takes.line (lines_of behind.0) takes.is))
-          ∙ ap (λ ls. after_lines lines (playing layout number world ls)) (sym behind.2)
-          ∙ on.2,
-    )
-
--- the lines that were run are the first ones
-PlaysOn-front : (layout : Layout) (start : Store) (lines : List PlayedLine) (number : ℕ) (world : model.World) (first left : Option (List ℕ))
-    → PlaysOn layout start lines number world first left
-    → (script : List ℕ) → first ≡ Some script → (rest : List PlayedLine) × ((play layout start script).lines ≡ lines ++ rest)
-PlaysOn-front layout start lines number world first left plays script known =
-    let on = plays script known in
-    ((playing layout number world (lines_of on.0)).lines, sym (ap (λ (p : Played). p.lines) on.2))
-
--- all of them, where nothing plays behind them
-PlaysOn-all : (layout : Layout) (start : Store) (lines : List PlayedLine) (number : ℕ) (world : model.World) (first left : Option (List ℕ)) (script : List ℕ)
-    → (plays : PlaysOn layout start lines number world first left) (known : first ≡ Some script) (played : Played)
-    → playing layout number world (lines_of (plays script known).0) ≡ played → played.lines ≡ []
-    → (lines ≡ (play layout start script).lines) × ((play layout start script).end ≡ played.end)
-PlaysOn-all layout start lines number world first left script plays known played is none =
-    let on = plays script known in
-    let whole : after_lines lines played ≡ play layout start script = ap (after_lines lines) (sym is) ∙ on.2 in (
-      sym (append-nil lines) ∙ ap (λ ls. lines ++ ls) (sym none) ∙ ap (λ (p : Played). p.lines) whole,
-      sym (ap (λ (p : Played). p.end) whole),
-    )
+-- and so is that of a state
+pub IsDamageOfState-ending : (one : StoreFault) (states : FinMap key_order State) → IsDamageAmong states one → IsDamageOfState (step_ending one)
+IsDamageOfState-ending store_fault.Failed states among = tt
+IsDamageOfState-ending store_fault.OutOfMemory states among = tt
+IsDamageOfState-ending (store_fault.Damaged key link want got) states among = (among.0, among.2)
 
 -- what one more line makes of a disk
-PagesAre-next : {D : Type 0} (g : Ghosts D) (layout : Layout) (start : Store) (lines : List PlayedLine) (before : FinMap key_order Object) (line : PlayedLine) (was now newer : D)
-    → IsTrue g.tells → (store_behind start lines).objects ≡ before → PagesAre g layout start lines was now
-    → Did g layout before line.store.objects line.commits now newer → PagesAre g layout start (lines ++ line ∷ []) was newer
-PagesAre-next g layout start lines before line was now newer told same pages did =
-    let owned : List Block → ℕ → Type 0 = IsOwnedPage layout in
+PagesAre-next : {D : Type 0} (g : Ghosts D) (layout : Layout) (start : Store) (lines : List PlayedLine) (before : Store) (outcome : Outcome) (was : D) (mine later : World D)
+    → IsTrue g.tells → store_behind start lines ≡ before → mine.vault.memory.layout ≡ layout → PagesAre g layout start lines was mine.vault.disk
+    → Did g before outcome mine later → PagesAre g layout start (lines ++ played_line outcome ∷ []) was later.vault.disk
+PagesAre-next g layout start lines before outcome was mine later told same at pages did =
+    let line : PlayedLine = played_line outcome in
+    let owned : List Block → ℕ → Type 0 = IsLeadPage layout in
     let all : taken_in (lines ++ line ∷ []) ≡ taken_in lines ++ taken_blocks line.commits = taken_in-push lines line in
-    let first : Wrote (owned (taken_in lines ++ taken_blocks line.commits)) (g.story was) (g.story now) =
-    wider (owned (taken_in lines)) (owned (taken_in lines ++ taken_blocks line.commits)) (g.story was) (g.story now)
-    (page-front layout (taken_in lines) (taken_blocks line.commits)) pages.others in
-    let second : Wrote (owned (taken_in lines ++ taken_blocks line.commits)) (g.story now) (g.story newer) =
-    wider (owned (taken_blocks line.commits)) (owned (taken_in lines ++ taken_blocks line.commits)) (g.story now) (g.story newer)
-    (page-behind layout (taken_in lines) (taken_blocks line.commits)) (did.wrote told) in
+    let first : Wrote (owned (taken_in lines ++ taken_blocks line.commits)) (g.story was) (g.story mine.vault.disk) =
+    wider (owned (taken_in lines)) (owned (taken_in lines ++ taken_blocks line.commits)) (g.story was) (g.story mine.vault.disk)
+    (lead-front layout (taken_in lines) (taken_blocks line.commits)) pages.others in
+    let wrote : Wrote (owned (taken_blocks line.commits)) (g.story mine.vault.disk) (g.story later.vault.disk) =
+    subst (λ (l : Layout). Wrote (IsLeadPage l (taken_blocks line.commits)) (g.story mine.vault.disk) (g.story later.vault.disk)) at (did.wrote told) in
+    let second : Wrote (owned (taken_in lines ++ taken_blocks line.commits)) (g.story mine.vault.disk) (g.story later.vault.disk) =
+    wider (owned (taken_blocks line.commits)) (owned (taken_in lines ++ taken_blocks line.commits)) (g.story mine.vault.disk) (g.story later.vault.disk)
+    (lead-behind layout (taken_in lines) (taken_blocks line.commits)) wrote in
+    let stand : AllStand start.last (g.story mine.vault.disk).reads layout before.objects =
+    subst (λ (s : Store). AllStand start.last (g.story mine.vault.disk).reads layout s.objects) same pages.objects in
+    let moved : AllStand start.last (g.story later.vault.disk).reads mine.vault.memory.layout line.store.objects =
+    did.objects told start.last (subst (λ (l : Layout). AllStand start.last (g.story mine.vault.disk).reads l before.objects) (sym at) stand) in
     record {
-      objects = subst (λ (s : Store). AllStand (g.story newer).reads layout s.objects) (sym (store_behind-push start lines line))
-          (did.objects told (subst (AllStand (g.story now).reads layout) same pages.objects));
-      others = subst (λ (blocks : List Block). Wrote (owned blocks) (g.story was) (g.story newer)) (sym all)
-          (wrote_then (owned (taken_in lines ++ taken_blocks line.commits)) (g.story was) (g.story now) (g.story newer) first second);
+      objects = subst (λ (s : Store). AllStand start.last (g.story later.vault.disk).reads layout s.objects) (sym (store_behind-push start lines line))
+          (subst (λ (l : Layout). AllStand start.last (g.story later.vault.disk).reads l line.store.objects) at moved);
+      others = subst (λ (blocks : List Block). Wrote (owned blocks) (g.story was) (g.story later.vault.disk)) (sym all)
+          (wrote_then (owned (taken_in lines ++ taken_blocks line.commits)) (g.story was) (g.story mine.vault.disk) (g.story later.vault.disk) first second);
     }
 
 -- and what it costs
-Spent-next : (lines : List PlayedLine) (line : PlayedLine) (was now newer : Calls) → Spent lines was now
-    → newer.writes ≡ now.writes + sum_by content_pages line.commits → newer.syncs ≡ now.syncs + min 1 (length line.commits)
-    → Spent (lines ++ line ∷ []) was newer
-Spent-next lines line was now newer spent writes syncs =
-    let pages : sum_by content_pages (commits_in (lines ++ line ∷ [])) ≡ sum_by content_pages (commits_in lines) + sum_by content_pages line.commits =
-    ap (sum_by content_pages) (commits_in-push lines line) ∙ sum_by-append content_pages (commits_in lines) line.commits in
-    let all : sum_by syncs_of (lines ++ line ∷ []) ≡ sum_by syncs_of lines + sum_by syncs_of (line ∷ []) = sum_by-append syncs_of lines (line ∷ []) in
-    let one : sum_by syncs_of (line ∷ []) ≡ syncs_of line + sum_by syncs_of [] = sum_by-cons syncs_of line [] in
-    record { writes = omega (arith, spent.writes, writes, pages); syncs = omega (arith, spent.syncs, syncs, all, one) }
+Costs-next : {D : Type 0} (g : Ghosts D) (start : Store) (before begun : Cost) (lines : List PlayedLine) (store : Store) (outcome : Outcome) (was : D) (mine later : World D)
+    → store ≡ store_behind start lines → Costs g before (with_lines start lines begun) was mine.vault.disk mine.vault.memory → Did g store outcome mine later
+    → Costs g before (with_lines start (lines ++ played_line outcome ∷ []) begun) was later.vault.disk later.vault.memory
+Costs-next g start before begun lines store outcome was mine later store_is so_far did =
+    let cost : Cost = with_lines start lines begun in
+    let more : Costs g cost (with_line (store_behind start lines) outcome.turns outcome.commits cost) mine.vault.disk later.vault.disk later.vault.memory =
+    subst (λ (s : Store). Costs g cost (with_line s outcome.turns outcome.commits cost) mine.vault.disk later.vault.disk later.vault.memory) store_is
+    (did.costs cost (sym so_far.gate)) in
+    subst (λ (c : Cost). Costs g before c was later.vault.disk later.vault.memory) (sym (with_lines-push start lines (played_line outcome) begun)) (record {
+      gate = more.gate;
+      spent = λ told. record {
+        writes = omega (arith, (so_far.spent told).writes, (more.spent told).writes);
+        syncs = omega (arith, (so_far.spent told).syncs, (more.spent told).syncs);
+      };
+    })
 
 -- a run that goes on by a step
-module _ {D : Type 0} (g : Ghosts D) (start : Store) (mine later : World) (number : ℕ) (first left rest old taken : Option (List ℕ)) (was now newer : D)
-    (step : Step) (text : List ℕ) (going : Going g start mine number first left old taken was now) (takes : TakesLine number left rest (Asks step))
-    (same : later.store.layout ≡ mine.store.layout) (outcome : Outcome) (played : step_play mine.store.layout going.world step ≡ Some outcome)
-    (came : CameTo g going.world outcome text later now newer) where
+module _ {D : Type 0} (g : Ghosts D) (start : Store) (before begun : Cost) (mine later : World D) (number : ℕ) (first left rest old taken : Option (List ℕ)) (was : D)
+    (step : Step) (text : List ℕ) (going : Going g start before begun mine number first left old taken was) (takes : TakesLine number left rest (Asks step))
+    (same : later.vault.memory.layout ≡ mine.vault.memory.layout) (outcome : Outcome) (played : step_play mine.vault.memory.layout going.world step ≡ Some outcome)
+    (came : CameTo g going.world outcome text mine later) where
   -- the lines with that of the step
   abbrev lines_with : List PlayedLine
   lines_with = going.lines ++ played_line outcome ∷ []
 
-  pages-now : IsTrue g.tells → PagesAre g later.store.layout start going.lines was now
-  pages-now told = subst (λ (l : Layout). PagesAre g l start going.lines was now) (sym same) (going.pages told)
+  pages-later : IsTrue g.tells → PagesAre g mine.vault.memory.layout start lines_with was later.vault.disk
+  pages-later told =
+      PagesAre-next g mine.vault.memory.layout start going.lines going.world.store outcome was mine later told (sym going.store_is) refl (going.pages told) came.did
 
   text-now : IsTrue g.tells → text ≡ outcome.text
   text-now told =
-      came.text_is told (subst (λ (s : Store). AllStand (g.story now).reads later.store.layout s.objects) (sym going.store_is) (pages-now told).objects)
+      came.text_is told (subst (λ (s : Store). AllHeld (g.story mine.vault.disk).reads mine.vault.memory.layout s.objects) (sym going.store_is)
+      (AllStand-held start.last (g.story mine.vault.disk).reads mine.vault.memory.layout (store_behind start going.lines).objects (going.pages told).objects))
 
-  plays-later : PlaysOn later.store.layout start lines_with (number + 1) outcome.world first rest
+  plays-later : PlaysOn later.vault.memory.layout start lines_with (number + 1) outcome.world first rest
   plays-later =
       subst (λ (l : Layout). PlaysOn l start lines_with (number + 1) outcome.world first rest) (sym same)
-      (PlaysOn-next mine.store.layout start going.lines number going.world first left rest step outcome takes played going.plays_on)
+      (PlaysOn-next mine.vault.memory.layout start going.lines number going.world first left rest step outcome takes played going.plays_on)
 
-  pub Going-next : (more : Option (List ℕ)) → Appends taken more text → Going g start later (number + 1) first rest old more was newer
+  counts-later : Costs g before (with_lines start lines_with begun) was later.vault.disk later.vault.memory
+  counts-later = Costs-next g start before begun going.lines going.world.store outcome was mine later going.store_is going.counts came.did
+
+  pub Going-next : (more : Option (List ℕ)) → Appends taken more text → Going g start before begun later (number + 1) first rest old more was
   Going-next more took =
       let line : PlayedLine = played_line outcome in
       record {
@@ -223,9 +148,8 @@ module _ {D : Type 0} (g : Ghosts D) (start : Store) (mine later : World) (numbe
         grew = (going.grew.0 ++ text, Appends-trans old taken more going.grew.0 text going.grew.1 took);
         took = λ told. subst (Appends old more) (sym (text_of-push going.lines line))
             (Appends-trans old taken more (text_of going.lines) line.text (going.took told) (subst (Appends taken more) (text-now told) took));
-        pages = λ told. PagesAre-next g later.store.layout start going.lines going.world.store.objects line was now newer told
-            (sym (ap (λ (s : Store). s.objects) going.store_is)) (pages-now told) came.did;
-        counts = λ told. Spent-next going.lines line (g.calls was) (g.calls now) (g.calls newer) (going.counts told) (came.did.writes told) (came.did.syncs told);
+        pages = λ told. subst (λ (l : Layout). PagesAre g l start lines_with was later.vault.disk) (sym same) (pages-later told);
+        counts = counts-later;
         plays_on = plays-later;
       }
 
@@ -244,122 +168,139 @@ module _ {D : Type 0} (g : Ghosts D) (start : Store) (mine later : World) (numbe
         };
       }
 
-  lines-front : (layout : Layout) → layout ≡ later.store.layout
-      → (script : List ℕ) → first ≡ Some script → (more : List PlayedLine) × ((play layout start script).lines ≡ lines_with ++ more)
-  lines-front layout is script known =
-      subst (λ (l : Layout). (more : List PlayedLine) × ((play l start script).lines ≡ lines_with ++ more)) (sym is)
-      (PlaysOn-front later.store.layout start lines_with (number + 1) outcome.world first rest plays-later script known)
+  lines-front : (script : List ℕ) → first ≡ Some script → (more : List PlayedLine) × ((play mine.vault.memory.layout start script).lines ≡ lines_with ++ more)
+  lines-front script known =
+      subst (λ (l : Layout). (more : List PlayedLine) × ((play l start script).lines ≡ lines_with ++ more)) same
+      (PlaysOn-front later.vault.memory.layout start lines_with (number + 1) outcome.world first rest plays-later script known)
 
   -- a run that ends with this status in the printing of the step's answer
   cut-short : (one : Status) (more : Option (List ℕ)) (frugal : Bool) → TookFront taken more text → MayCut one frugal
-      → (IsTrue g.tells → OnPlayed one (PagesAre g mine.store.layout start lines_with was newer))
-      → (IsTrue g.tells → OnPlayed one (Spent lines_with (g.calls was) (g.calls newer)))
-      → ((script : List ℕ) → first ≡ Some script → Ran one lines_with (play mine.store.layout start script))
+      → (OnPlayed one (PagesAre g mine.vault.memory.layout start lines_with was later.vault.disk))
+      → (OnPlayed one (RestsAt g mine.vault.memory.layout (store_behind start lines_with) later.vault.disk))
+      → (OnPlayed one (Spent before (with_lines start lines_with begun) (g.calls was) (g.calls later.vault.disk)))
+      → ((script : List ℕ) → first ≡ Some script → Ran one lines_with (play mine.vault.memory.layout start script))
       → ShowsDamage one (store_behind start lines_with).objects → (IsTrue g.tells → IsUndamaged one)
-      → Ended g mine.store.layout start frugal first old more was newer one
-  cut-short one more frugal cut may pages counts ran damage whole = record {
+      → Ended g mine.vault.memory.layout start before begun frugal first old more was later.vault.disk one
+  cut-short one more frugal cut may pages rests counts ran damage whole = record {
     lines = lines_with;
     ran = ran;
     grew = (going.grew.0 ++ cut.text, Appends-trans old taken more going.grew.0 cut.text going.grew.1 cut.took);
     took = λ told. inr (may, TookFront-cut more told cut);
-    pages = pages;
-    counts = counts;
+    pages = λ told. pages;
+    rests = λ told. rests;
+    counts = λ told. counts;
     damage = damage;
     whole = whole;
   }
 
   -- the printing of the step's answer failed
-  pub Ended-printing : (one : Status) (more : Option (List ℕ)) (frugal : Bool) (before since : ℕ) → TookFront taken more text
-      → EndsPrinting one frugal before since → Ended g mine.store.layout start frugal first old more was newer one
-  Ended-printing status.WriteFault more frugal before since cut ends = cut-short status.WriteFault more frugal cut tt (λ told. tt) (λ told. tt)
-      (lines-front mine.store.layout (sym same)) tt (λ told. tt)
-  Ended-printing status.OutOfMemory more frugal before since cut ends = cut-short status.OutOfMemory more frugal cut ends (λ told. tt) (λ told. tt)
-      (lines-front mine.store.layout (sym same)) tt (λ told. tt)
-  Ended-printing (status.Malformed line) more frugal before since cut ends = absurd ends
-  Ended-printing (status.NotBuilt line) more frugal before since cut ends = absurd ends
-  Ended-printing status.ReadFault more frugal before since cut ends = absurd ends
-  Ended-printing status.Done more frugal before since cut ends = absurd ends
-  Ended-printing status.DiskFault more frugal before since cut ends = absurd ends
-  Ended-printing (status.Refused why) more frugal before since cut ends = absurd ends
-  Ended-printing status.Usage more frugal before since cut ends = absurd ends
-  Ended-printing (status.Damaged key link want got) more frugal before since cut ends = absurd ends
+  pub Ended-printing : (one : Status) (more : Option (List ℕ)) (frugal : Bool) (first_fault since : ℕ) → TookFront taken more text
+      → EndsPrinting one frugal first_fault since → Ended g mine.vault.memory.layout start before begun frugal first old more was later.vault.disk one
+  Ended-printing status.WriteFault more frugal first_fault since cut ends = cut-short status.WriteFault more frugal cut tt tt tt tt lines-front tt (λ told. tt)
+  Ended-printing status.OutOfMemory more frugal first_fault since cut ends = cut-short status.OutOfMemory more frugal cut ends tt tt tt lines-front tt (λ told. tt)
+  Ended-printing (status.Malformed line) more frugal first_fault since cut ends = absurd ends
+  Ended-printing (status.NotBuilt line) more frugal first_fault since cut ends = absurd ends
+  Ended-printing status.ReadFault more frugal first_fault since cut ends = absurd ends
+  Ended-printing status.Done more frugal first_fault since cut ends = absurd ends
+  Ended-printing status.DiskFault more frugal first_fault since cut ends = absurd ends
+  Ended-printing (status.Refused why) more frugal first_fault since cut ends = absurd ends
+  Ended-printing status.Usage more frugal first_fault since cut ends = absurd ends
+  Ended-printing (status.Damaged key link want got) more frugal first_fault since cut ends = absurd ends
 
 -- a run that ends where it is, before or at the end of its script
-module _ {D : Type 0} (g : Ghosts D) (start : Store) (mine : World) (number : ℕ) (first left old taken : Option (List ℕ)) (was now : D)
-    (going : Going g start mine number first left old taken was now) where
-  lines-before : (script : List ℕ) → first ≡ Some script → (rest : List PlayedLine) × ((play mine.store.layout start script).lines ≡ going.lines ++ rest)
-  lines-before = PlaysOn-front mine.store.layout start going.lines number going.world first left going.plays_on
+module _ {D : Type 0} (g : Ghosts D) (start : Store) (before begun : Cost) (mine : World D) (number : ℕ) (first left old taken : Option (List ℕ)) (was : D) (sound : IsWorld g mine)
+    (going : Going g start before begun mine number first left old taken was) where
+  abbrev layout_now : Layout
+  layout_now = mine.vault.memory.layout
 
-  -- a run that ends with this status where it is
-  ended-here : (one : Status) (newer : D) (frugal : Bool) → (IsTrue g.tells → OnPlayed one (PagesAre g mine.store.layout start going.lines was newer))
-      → (IsTrue g.tells → OnPlayed one (Spent going.lines (g.calls was) (g.calls newer)))
-      → ((script : List ℕ) → first ≡ Some script → Ran one going.lines (play mine.store.layout start script))
+  lines-before : (script : List ℕ) → first ≡ Some script → (rest : List PlayedLine) × ((play layout_now start script).lines ≡ going.lines ++ rest)
+  lines-before = PlaysOn-front layout_now start going.lines number going.world first left going.plays_on
+
+  -- the disk rests where the run is
+  rests-now : IsTrue g.tells → RestsAt g layout_now (store_behind start going.lines) mine.vault.disk
+  rests-now told =
+      subst (λ (s : Store). RestsAt g layout_now s mine.vault.disk) going.store_is
+      (rests-at g mine going.world.store told sound going.stands.store (held-now told)) where
+        held-now : IsTrue g.tells → AllHeld (g.story mine.vault.disk).reads layout_now going.world.store.objects
+        held-now tells =
+            subst (λ (s : Store). AllHeld (g.story mine.vault.disk).reads layout_now s.objects) (sym going.store_is)
+            (AllStand-held start.last (g.story mine.vault.disk).reads layout_now (store_behind start going.lines).objects (going.pages tells).objects)
+
+  -- a run that ends with a fault where it is
+  ended-here : (one : Status) (newer : D) (frugal : Bool) → OnPlayed one (PagesAre g layout_now start going.lines was newer)
+      → OnPlayed one (RestsAt g layout_now (store_behind start going.lines) newer)
+      → OnPlayed one (Spent before (with_lines start going.lines begun) (g.calls was) (g.calls newer))
+      → ((script : List ℕ) → first ≡ Some script → Ran one going.lines (play layout_now start script))
       → ShowsDamage one (store_behind start going.lines).objects → (IsTrue g.tells → IsUndamaged one)
-      → Ended g mine.store.layout start frugal first old taken was newer one
-  ended-here one newer frugal pages counts ran damage whole = record {
+      → Ended g layout_now start before begun frugal first old taken was newer one
+  ended-here one newer frugal pages rests counts ran damage whole = record {
     lines = going.lines;
     ran = ran;
     grew = going.grew;
     took = λ told. inl (going.took told);
-    pages = pages;
-    counts = counts;
+    pages = λ told. pages;
+    rests = λ told. rests;
+    counts = λ told. counts;
     damage = damage;
     whole = whole;
   }
 
-  pub Ended-over : (frugal : Bool) → NoLine left → Ended g mine.store.layout start frugal first old taken was now status.Done
+  pub Ended-over : (frugal : Bool) → NoLine left → Ended g layout_now start before begun frugal first old taken was mine.vault.disk status.Done
   Ended-over frugal none = record {
     lines = going.lines;
     ran = λ script known.
         let on = going.plays_on script known in
         let empty : lines_of on.0 ≡ [] = subst NoLine on.1 none in
-        PlaysOn-all mine.store.layout start going.lines number going.world first left script going.plays_on known (record { lines = []; end = AtInputEnd })
-        (ap (playing mine.store.layout number going.world) empty) refl;
+        PlaysOn-all layout_now start going.lines number going.world first left script going.plays_on known (record { lines = []; end = AtInputEnd })
+        (ap (playing layout_now number going.world) empty) refl;
     grew = going.grew;
     took = λ told. inl (going.took told);
     pages = going.pages;
-    counts = going.counts;
+    rests = rests-now;
+    counts = going.counts.spent;
     damage = tt;
     whole = λ told. tt;
   }
 
-  pub Ended-bad : (frugal : Bool) → BadLine number left → Ended g mine.store.layout start frugal first old taken was now (status.Malformed number)
+  pub Ended-bad : (frugal : Bool) → BadLine number left → Ended g layout_now start before begun frugal first old taken was mine.vault.disk (status.Malformed number)
   Ended-bad frugal bad = record {
     lines = going.lines;
     ran = λ script known.
         let on = going.plays_on script known in
         let line : BadLine number (Some on.0) = subst (BadLine number) on.1 bad in
-        PlaysOn-all mine.store.layout start going.lines number going.world first left script going.plays_on known (record { lines = []; end = AtMalformed number })
-        (ap (playing mine.store.layout number going.world) line.2 ∙ playing-bad mine.store.layout number going.world line.0 line.1 line.3) refl;
+        PlaysOn-all layout_now start going.lines number going.world first left script going.plays_on known (record { lines = []; end = AtMalformed number })
+        (ap (playing layout_now number going.world) line.2 ∙ playing-bad layout_now number going.world line.0 line.1 line.3) refl;
     grew = going.grew;
     took = λ told. inl (going.took told);
     pages = going.pages;
-    counts = going.counts;
+    rests = rests-now;
+    counts = going.counts.spent;
     damage = tt;
     whole = λ told. tt;
   }
 
   pub Ended-unbuilt : (frugal : Bool) (step : Step) (rest : Option (List ℕ)) → TakesLine number left rest (Asks step)
-      → step_play mine.store.layout going.world step ≡ None → Ended g mine.store.layout start frugal first old taken was now (status.NotBuilt number)
+      → step_play layout_now going.world step ≡ None → Ended g layout_now start before begun frugal first old taken was mine.vault.disk (status.NotBuilt number)
   Ended-unbuilt frugal step rest takes none = record {
     lines = going.lines;
     ran = λ script known.
         let on = going.plays_on script known in
         let taken : LineTaken (Some on.0) takes.line rest = subst (λ l. LineTaken l takes.line rest) on.1 takes.taken in
         let behind = taken_rest on.0 takes.line rest taken in
-        PlaysOn-all mine.store.layout start going.lines number going.world first left script going.plays_on known (record { lines = []; end = AtUnbuilt number })
-        (ap (playing mine.store.layout number going.world) behind.2 ∙ playing-unbuilt mine.store.layout number going.world takes.line (lines_of behind.0) step takes.is none) refl;
+        PlaysOn-all layout_now start going.lines number going.world first left script going.plays_on known (record { lines = []; end = AtUnbuilt number })
+        (ap (playing layout_now number going.world) behind.2 ∙ playing-unbuilt layout_now number going.world takes.line (lines_of behind.0) step takes.is none) refl;
     grew = going.grew;
     took = λ told. inl (going.took told);
     pages = going.pages;
-    counts = going.counts;
+    rests = rests-now;
+    counts = going.counts.spent;
     damage = tt;
     whole = λ told. tt;
   }
 
-  pub Going-skipped : (later : World) (rest : Option (List ℕ)) → TakesLine number left rest Skipped → later ≡ mine
-      → Going g start later (number + 1) first rest old taken was now
-  Going-skipped later rest takes same = subst (λ (m : World). Going g start m (number + 1) first rest old taken was now) (sym same) (record {
+  pub Going-skipped : (later : World D) (rest : Option (List ℕ)) → TakesLine number left rest Skipped → later ≡ mine
+      → Going g start before begun later (number + 1) first rest old taken was
+  Going-skipped later rest takes same = subst (λ (m : World D). Going g start before begun m (number + 1) first rest old taken was) (sym same) (record {
     world = going.world;
     stands = going.stands;
     lines = going.lines;
@@ -368,53 +309,50 @@ module _ {D : Type 0} (g : Ghosts D) (start : Store) (mine : World) (number : �
     took = going.took;
     pages = going.pages;
     counts = going.counts;
-    plays_on = PlaysOn-skipped mine.store.layout start going.lines number going.world first left rest takes going.plays_on;
+    plays_on = PlaysOn-skipped layout_now start going.lines number going.world first left rest takes going.plays_on;
   })
 
-  pub Ended-reading : (one : Status) (frugal : Bool) (before since : ℕ) → EndsReading one number left before since
-      → Ended g mine.store.layout start frugal first old taken was now one
-  Ended-reading (status.Malformed line) frugal before since ends =
-      subst (λ (n : ℕ). Ended g mine.store.layout start frugal first old taken was now (status.Malformed n)) (sym ends.0) (Ended-bad frugal ends.1)
-  Ended-reading (status.NotBuilt line) frugal before since ends = absurd ends
-  Ended-reading status.ReadFault frugal before since ends = ended-here status.ReadFault now frugal (λ told. tt) (λ told. tt) lines-before tt (λ told. tt)
-  Ended-reading status.OutOfMemory frugal before since ends = ended-here status.OutOfMemory now frugal (λ told. tt) (λ told. tt) lines-before tt (λ told. tt)
-  Ended-reading status.Done frugal before since ends = absurd ends
-  Ended-reading status.WriteFault frugal before since ends = absurd ends
-  Ended-reading status.DiskFault frugal before since ends = absurd ends
-  Ended-reading (status.Refused why) frugal before since ends = absurd ends
-  Ended-reading status.Usage frugal before since ends = absurd ends
-  Ended-reading (status.Damaged key link want got) frugal before since ends = absurd ends
+  pub Ended-reading : (one : Status) (frugal : Bool) (first_fault since : ℕ) → EndsReading one number left first_fault since
+      → Ended g layout_now start before begun frugal first old taken was mine.vault.disk one
+  Ended-reading (status.Malformed line) frugal first_fault since ends =
+      subst (λ (n : ℕ). Ended g layout_now start before begun frugal first old taken was mine.vault.disk (status.Malformed n)) (sym ends.0) (Ended-bad frugal ends.1)
+  Ended-reading (status.NotBuilt line) frugal first_fault since ends = absurd ends
+  Ended-reading status.ReadFault frugal first_fault since ends = ended-here status.ReadFault mine.vault.disk frugal tt tt tt lines-before tt (λ told. tt)
+  Ended-reading status.OutOfMemory frugal first_fault since ends = ended-here status.OutOfMemory mine.vault.disk frugal tt tt tt lines-before tt (λ told. tt)
+  Ended-reading status.Done frugal first_fault since ends = absurd ends
+  Ended-reading status.WriteFault frugal first_fault since ends = absurd ends
+  Ended-reading status.DiskFault frugal first_fault since ends = absurd ends
+  Ended-reading (status.Refused why) frugal first_fault since ends = absurd ends
+  Ended-reading status.Usage frugal first_fault since ends = absurd ends
+  Ended-reading (status.Damaged key link want got) frugal first_fault since ends = absurd ends
 
   -- a step had no answer
-  pub Ended-step : (one : Status) (newer : D) (frugal : Bool) (before since : ℕ) (step : Step) (rest : Option (List ℕ)) → TakesLine number left rest (Asks step)
-      → IsUnbuilt mine.store.layout going.world step number now newer one → EndsStep one before since → ShowsDamage one going.world.store.objects
-      → (IsTrue g.tells → IsUndamaged one) → Ended g mine.store.layout start frugal first old taken was newer one
-  Ended-step status.DiskFault newer frugal before since step rest takes unbuilt ends shows undamaged = ended-here status.DiskFault newer frugal (λ told. tt) (λ told. tt) lines-before tt (λ told. tt)
-  Ended-step status.OutOfMemory newer frugal before since step rest takes unbuilt ends shows undamaged = ended-here status.OutOfMemory newer frugal (λ told. tt) (λ told. tt) lines-before tt (λ told. tt)
-  Ended-step (status.Damaged key link want got) newer frugal before since step rest takes unbuilt ends shows undamaged = record {
-    lines = going.lines;
-    ran = lines-before;
-    grew = going.grew;
-    took = λ told. inl (going.took told);
-    pages = λ told. tt;
-    counts = λ told. tt;
-    damage = subst (λ (s : Store). ShowsDamage (status.Damaged key link want got) s.objects) going.store_is shows;
-    whole = undamaged;
-  }
-  Ended-step (status.Malformed line) newer frugal before since step rest takes unbuilt ends shows undamaged = absurd ends
-  Ended-step (status.NotBuilt line) newer frugal before since step rest takes unbuilt ends shows undamaged =
-      subst (λ (n : ℕ). Ended g mine.store.layout start frugal first old taken was newer (status.NotBuilt n)) (sym unbuilt.0)
-      (subst (λ (d : D). Ended g mine.store.layout start frugal first old taken was d (status.NotBuilt number)) (sym unbuilt.2)
+  pub Ended-step : (one : Status) (later : World D) (frugal : Bool) (first_fault since : ℕ) (step : Step) (rest : Option (List ℕ)) → TakesLine number left rest (Asks step)
+      → IsUnbuilt layout_now going.world step number mine.vault later.vault one → EndsStep one first_fault since → ShowsDamage one going.world.store.objects
+      → (IsTrue g.tells → IsUndamaged one) → Ended g layout_now start before begun frugal first old taken was later.vault.disk one
+  Ended-step status.DiskFault later frugal first_fault since step rest takes unbuilt ends shows undamaged =
+      ended-here status.DiskFault later.vault.disk frugal tt tt tt lines-before tt (λ told. tt)
+  Ended-step status.OutOfMemory later frugal first_fault since step rest takes unbuilt ends shows undamaged =
+      ended-here status.OutOfMemory later.vault.disk frugal tt tt tt lines-before tt (λ told. tt)
+  Ended-step (status.Damaged key link want got) later frugal first_fault since step rest takes unbuilt ends shows undamaged =
+      ended-here (status.Damaged key link want got) later.vault.disk frugal tt tt tt lines-before
+      (subst (λ (s : Store). ShowsDamage (status.Damaged key link want got) s.objects) going.store_is shows) undamaged
+  Ended-step (status.Malformed line) later frugal first_fault since step rest takes unbuilt ends shows undamaged = absurd ends
+  Ended-step (status.NotBuilt line) later frugal first_fault since step rest takes unbuilt ends shows undamaged =
+      subst (λ (n : ℕ). Ended g layout_now start before begun frugal first old taken was later.vault.disk (status.NotBuilt n)) (sym unbuilt.0)
+      (subst (λ (v : Vault D). Ended g layout_now start before begun frugal first old taken was v.disk (status.NotBuilt number)) (sym unbuilt.2)
       (Ended-unbuilt frugal step rest takes unbuilt.1))
-  Ended-step status.ReadFault newer frugal before since step rest takes unbuilt ends shows undamaged = absurd ends
-  Ended-step status.Done newer frugal before since step rest takes unbuilt ends shows undamaged = absurd ends
-  Ended-step status.WriteFault newer frugal before since step rest takes unbuilt ends shows undamaged = absurd ends
-  Ended-step (status.Refused why) newer frugal before since step rest takes unbuilt ends shows undamaged = absurd ends
-  Ended-step status.Usage newer frugal before since step rest takes unbuilt ends shows undamaged = absurd ends
+  Ended-step status.ReadFault later frugal first_fault since step rest takes unbuilt ends shows undamaged = absurd ends
+  Ended-step status.Done later frugal first_fault since step rest takes unbuilt ends shows undamaged = absurd ends
+  Ended-step status.WriteFault later frugal first_fault since step rest takes unbuilt ends shows undamaged = absurd ends
+  Ended-step (status.Refused why) later frugal first_fault since step rest takes unbuilt ends shows undamaged = absurd ends
+  Ended-step status.Usage later frugal first_fault since step rest takes unbuilt ends shows undamaged = absurd ends
 
-  -- the objects stand where the run is
-  pub stand-now : IsTrue g.tells → AllStand (g.story now).reads mine.store.layout going.world.store.objects
-  stand-now told = subst (λ (s : Store). AllStand (g.story now).reads mine.store.layout s.objects) (sym going.store_is) (going.pages told).objects
+  -- the contents are held where the run is
+  pub held-now : IsTrue g.tells → AllHeld (g.story mine.vault.disk).reads layout_now going.world.store.objects
+  held-now told =
+      subst (λ (s : Store). AllHeld (g.story mine.vault.disk).reads layout_now s.objects) (sym going.store_is)
+      (AllStand-held start.last (g.story mine.vault.disk).reads layout_now (store_behind start going.lines).objects (going.pages told).objects)
 
 -- the same of a status that is known
 pub EndsReading-ended : (one : Status) (why : LineFault) (number : ℕ) (left : Option (List ℕ)) (before now : ℕ) (frugal : Bool) → one ≡ reading_ending why
@@ -422,37 +360,160 @@ pub EndsReading-ended : (one : Status) (why : LineFault) (number : ℕ) (left : 
 EndsReading-ended one why number left before now frugal is cause = subst (λ s. EndsReading s number left before now) (sym is) (EndsReading-fault why number left before now frugal cause)
 
 -- no session has begun more than a greater number
-pub HaveBegun-more : (mine : World) (n m : ℕ) → HaveBegun n mine → n ≤ m → HaveBegun m mine
+pub HaveBegun-more : {D : Type 0} (mine : World D) (n m : ℕ) → HaveBegun n mine → n ≤ m → HaveBegun m mine
 HaveBegun-more mine n m have less = λ number one is. omega (arith, have number one is, less)
 
--- a run that begins
-pub Going-first : {D : Type 0} (g : Ghosts D) (mine : World) (first taken : Option (List ℕ)) (disk : D) → WorldStands mine (world_over empty_store)
-    → Going g empty_store mine 1 first first taken taken disk disk
-Going-first g mine first taken disk stands = record {
-  world = world_over empty_store;
+-- a run of a world over a vault begins
+pub starts-over : {D : Type 0} (g : Ghosts D) (mine : World D) (vault : Vault D) (start : Store) (cost : Cost) → mine.vault ≡ vault → WorldStands mine (model.world_over start)
+    → cost.gate ≡ vault.memory.log.gate → (IsTrue g.tells → AllHeld (g.story vault.disk).reads vault.memory.layout start.objects) → StartsOn g start cost mine
+starts-over {D = D} g mine vault start cost same stands gate held = record {
   stands = stands;
+  held = λ told. subst (λ (v : Vault D). AllHeld (g.story v.disk).reads v.memory.layout start.objects) (sym same) (held told);
+  gate = ap (λ (v : Vault D). v.memory.log.gate) same ∙ sym gate;
+}
+
+-- what holds of the status that a run ended with
+pub ended-status : (P : Status → Type 0) (ended : Result (Unit {0}) Status) (how : Status) → MatchResult ended (λ x. how ≡ status.Done) (λ s. how ≡ s)
+    → MatchResult ended (λ x. P status.Done) P → P how
+ended-status P (Ok x) how is holds = subst P (sym is) holds
+ended-status P (Err s) how is holds = subst P (sym is) holds
+
+-- a run that begins
+pub Going-first : {D : Type 0} (g : Ghosts D) (mine : World D) (start : Store) (cost : Cost) (first taken : Option (List ℕ)) → IsWorld g mine → StartsOn g start cost mine
+    → Going g start cost cost mine 1 first first taken taken mine.vault.disk
+Going-first g mine start cost first taken sound starts = record {
+  world = model.world_over start;
+  stands = starts.stands;
   lines = [];
   store_is = refl;
   grew = ([], Appends-nil taken);
   took = λ told. Appends-nil taken;
-  pages = λ told. record { objects = no-objects (g.story disk).reads mine.store.layout; others = wrote_none (IsOwnedPage mine.store.layout []) (g.story disk) };
-  counts = λ told. record { writes = omega arith; syncs = omega arith };
+  pages = λ told. record {
+    objects = AllHeld-stand g mine start sound starts.stands.store (starts.held told);
+    others = wrote_none (IsLeadPage mine.vault.memory.layout []) (g.story mine.vault.disk);
+  };
+  counts = record { gate = starts.gate; spent = λ told. record { writes = refl; syncs = refl } };
   plays_on = λ script known. (script, known, refl);
 }
 
--- a run that found no memory before its first line
-pub Ended-unbegun : {D : Type 0} (g : Ghosts D) (layout : Layout) (start : Store) (frugal : Bool) (script taken : Option (List ℕ)) (disk : D)
-    → Ended g layout start frugal script taken taken disk disk status.OutOfMemory
-Ended-unbegun g layout start frugal script taken disk = record {
-  lines = [];
-  ran = λ text known. ((play layout start text).lines, refl);
+-- and whatever the disk tells
+pub GoingSo-first : (first taken : Option (List ℕ)) → GoingSo 1 first first taken taken
+GoingSo-first first taken = record {
   grew = ([], Appends-nil taken);
-  took = λ told. inl (Appends-nil taken);
-  pages = λ told. tt;
-  counts = λ told. tt;
-  damage = tt;
-  whole = λ told. tt;
-}
+  ends_on = λ script known. (script, known, λ layout start world. PlaysAlike layout start world script);
+} where
+  PlaysAlike : (layout : Layout) (start : Store) (world : model.World) (script : List ℕ) → (playing layout 1 world (lines_of script)).end ≡ (play layout start script).end
+  PlaysAlike layout start world script = ends-alike 1 (lines_of script) layout layout world (model.world_over start)
+
+-- the sink took more
+Grew-more : (old taken more : Option (List ℕ)) (text : List ℕ) → Grew old taken → Appends taken more text → Grew old more
+Grew-more old taken more text grew took = (grew.0 ++ text, Appends-trans old taken more grew.0 text grew.1 took)
+
+-- whatever the disk tells, a run goes on by a step, past a skipped line, and ends
+module _ (number : ℕ) (first left old taken : Option (List ℕ)) (going : GoingSo number first left old taken) where
+  pub GoingSo-next : (step : Step) (rest more : Option (List ℕ)) (text : List ℕ) → TakesLine number left rest (Asks step)
+      → ((layout : Layout) (world : model.World) → (outcome : Outcome) × (step_play layout world step ≡ Some outcome)) → Appends taken more text
+      → GoingSo (number + 1) first rest old more
+  GoingSo-next step rest more text takes built took = record {
+    grew = Grew-more old taken more text going.grew took;
+    ends_on = EndsOn-next number first left rest step takes built going.ends_on;
+  }
+
+  pub GoingSo-skipped : (rest : Option (List ℕ)) → TakesLine number left rest Skipped → GoingSo (number + 1) first rest old taken
+  GoingSo-skipped rest takes = record { grew = going.grew; ends_on = EndsOn-skipped number first left rest takes going.ends_on }
+
+  pub EndedSo-over : NoLine left → EndedSo first old taken status.Done
+  EndedSo-over none = record {
+    grew = going.grew;
+    ends = EndsOn-here number first left AtInputEnd going.ends_on (end-over number left none);
+  }
+
+  EndedSo-bad : BadLine number left → EndedSo first old taken (status.Malformed number)
+  EndedSo-bad bad = record {
+    grew = going.grew;
+    ends = EndsOn-here number first left (AtMalformed number) going.ends_on (end-bad number left bad);
+  }
+
+  ended-so : (one : Status) → ((layout : Layout) (start : Store) (text : List ℕ) → first ≡ Some text → EndsAs one (play layout start text).end) → EndedSo first old taken one
+  ended-so one ends = record { grew = going.grew; ends = ends }
+
+  pub EndedSo-reading : (one : Status) (before since : ℕ) → EndsReading one number left before since → EndedSo first old taken one
+  EndedSo-reading (status.Malformed line) before since ends = subst (λ (n : ℕ). EndedSo first old taken (status.Malformed n)) (sym ends.0) (EndedSo-bad ends.1)
+  EndedSo-reading (status.NotBuilt line) before since ends = absurd ends
+  EndedSo-reading status.ReadFault before since ends = ended-so status.ReadFault (λ layout start text known. tt)
+  EndedSo-reading status.OutOfMemory before since ends = ended-so status.OutOfMemory (λ layout start text known. tt)
+  EndedSo-reading status.Done before since ends = absurd ends
+  EndedSo-reading status.WriteFault before since ends = absurd ends
+  EndedSo-reading status.DiskFault before since ends = absurd ends
+  EndedSo-reading (status.Refused why) before since ends = absurd ends
+  EndedSo-reading status.Usage before since ends = absurd ends
+  EndedSo-reading (status.Damaged key link want got) before since ends = absurd ends
+
+  pub EndedSo-step : (one : Status) (before since : ℕ) (step : Step) (rest : Option (List ℕ)) → TakesLine number left rest (Asks step) → IsNeverBuilt number step one
+      → EndsStep one before since → EndedSo first old taken one
+  EndedSo-step status.DiskFault before since step rest takes never ends = ended-so status.DiskFault (λ layout start text known. tt)
+  EndedSo-step status.OutOfMemory before since step rest takes never ends = ended-so status.OutOfMemory (λ layout start text known. tt)
+  EndedSo-step (status.Damaged key link want got) before since step rest takes never ends =
+      ended-so (status.Damaged key link want got) (λ layout start text known. tt)
+  EndedSo-step (status.NotBuilt line) before since step rest takes never ends = subst (λ (n : ℕ). EndedSo first old taken (status.NotBuilt n)) (sym never.0) (record {
+    grew = going.grew;
+    ends = EndsOn-here number first left (AtUnbuilt number) going.ends_on (end-unbuilt number left rest step takes never.1);
+  })
+  EndedSo-step (status.Malformed line) before since step rest takes never ends = absurd ends
+  EndedSo-step status.ReadFault before since step rest takes never ends = absurd ends
+  EndedSo-step status.Done before since step rest takes never ends = absurd ends
+  EndedSo-step status.WriteFault before since step rest takes never ends = absurd ends
+  EndedSo-step (status.Refused why) before since step rest takes never ends = absurd ends
+  EndedSo-step status.Usage before since step rest takes never ends = absurd ends
+
+  pub EndedSo-printing : (one : Status) (more : Option (List ℕ)) (frugal : Bool) (before since : ℕ) (text : List ℕ) → TookFront taken more text
+      → EndsPrinting one frugal before since → EndedSo first old more one
+  EndedSo-printing status.WriteFault more frugal before since text cut ends =
+      record { grew = Grew-more old taken more cut.text going.grew cut.took; ends = λ layout start script known. tt }
+  EndedSo-printing status.OutOfMemory more frugal before since text cut ends =
+      record { grew = Grew-more old taken more cut.text going.grew cut.took; ends = λ layout start script known. tt }
+  EndedSo-printing (status.Malformed line) more frugal before since text cut ends = absurd ends
+  EndedSo-printing (status.NotBuilt line) more frugal before since text cut ends = absurd ends
+  EndedSo-printing status.ReadFault more frugal before since text cut ends = absurd ends
+  EndedSo-printing status.Done more frugal before since text cut ends = absurd ends
+  EndedSo-printing status.DiskFault more frugal before since text cut ends = absurd ends
+  EndedSo-printing (status.Refused why) more frugal before since text cut ends = absurd ends
+  EndedSo-printing status.Usage more frugal before since text cut ends = absurd ends
+  EndedSo-printing (status.Damaged key link want got) more frugal before since text cut ends = absurd ends
+
+-- a run that ended before its first line
+module _ {D : Type 0} (g : Ghosts D) (layout : Layout) (start : Store) (before begun : Cost) (frugal : Bool) (script taken : Option (List ℕ)) (was now : D) where
+  pub Ended-no_memory : Ended g layout start before begun frugal script taken taken was now status.OutOfMemory
+  Ended-no_memory = record {
+    lines = [];
+    ran = λ text known. ((play layout start text).lines, refl);
+    grew = ([], Appends-nil taken);
+    took = λ told. inl (Appends-nil taken);
+    pages = λ told. tt;
+    rests = λ told. tt;
+    counts = λ told. tt;
+    damage = tt;
+    whole = λ told. tt;
+  }
+
+  pub Ended-no_disk : Ended g layout start before begun frugal script taken taken was now status.DiskFault
+  Ended-no_disk = record {
+    lines = [];
+    ran = λ text known. ((play layout start text).lines, refl);
+    grew = ([], Appends-nil taken);
+    took = λ told. inl (Appends-nil taken);
+    pages = λ told. tt;
+    rests = λ told. tt;
+    counts = λ told. tt;
+    damage = tt;
+    whole = λ told. tt;
+  }
+
+pub EndedSo-no_memory : (script taken : Option (List ℕ)) → EndedSo script taken taken status.OutOfMemory
+EndedSo-no_memory script taken = record { grew = ([], Appends-nil taken); ends = λ layout start text known. tt }
+
+pub EndedSo-no_disk : (script taken : Option (List ℕ)) → EndedSo script taken taken status.DiskFault
+EndedSo-no_disk script taken = record { grew = ([], Appends-nil taken); ends = λ layout start text known. tt }
 
 -- what a source has left is what a reader without bytes ahead has before it
 pub prepend-none : (ahead : List ℕ) (left : Option (List ℕ)) → ahead ≡ [] → left ≡ prepend_known ahead left

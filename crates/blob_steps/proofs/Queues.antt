@@ -1,5 +1,5 @@
 -- Requests that join the queue of the program's world and that leave it.
-use Rattle.std.proofs.Common.{◌≡◌, ◌≢◌, ◌==◌, ℕ, zero, suc, ◌+◌, ◌<◌, ◌⊎◌, true, List, [], ◌∷◌, ◌++◌, length, Option, Some, None, inl, inr, refl, sym, ◌∙◌, ap, subst, arith, length-append}
+use Rattle.std.proofs.Common.{◌≡◌, ◌≢◌, ◌==◌, ℕ, zero, suc, ◌+◌, ◌<◌, ◌⊎◌, true, List, [], ◌∷◌, ◌++◌, length, Some, None, inl, inr, refl, sym, ◌∙◌, ap, subst, arith, length-append}
 use Rattle.std.specs.Prelude.{map, slice_get, slice_index_or}
 use Rattle.std.proofs.lemmas.List.{map-append}
 use Rattle.std.proofs.lemmas.List.Elements.{All-append}
@@ -9,18 +9,17 @@ use Rattle.store_model.specs.Turn as turn
 use Rattle.store_model.specs.Turn.{begun_after, session_after, stage_turn}
 use Rattle.store_model.specs.World as model
 use Rattle.store_model.specs.World.{with_session, world_over}
-use Rattle.std.specs.FinMap.{FinMap, empty, get, get-empty}
-use Rattle.store_model.specs.Key.{key_order}
-use Rattle.store_model.specs.Standing.{BothStand, SameObjects}
-use Rattle.store_model.specs.State.{State}
-use Rattle.store_model.specs.Store.{Object, empty_store}
+use Rattle.store_model.specs.Store.{Store, empty_store}
 use Rattle.txn.specs.Requests.{transaction_of}
 use Rattle.txn.specs.Txns.{NoAppends}
 use Rattle.txn.specs.declared.request.Request.{Request}
 use Rattle.blob_steps.specs.Sessions.{Asks, IsSet, SessionStands, StageStands}
-use Rattle.blob_steps.specs.Steps.{AreNew, IsWorld, RequestStands, TakesTurn, WorldStands}
-use Rattle.blob_store.specs.Stores.{AreWhole, IsSound, StoreStands}
-use Rattle.blob_store.specs.declared.store.Store.{Store as MineStore}
+use Rattle.blob_steps.specs.Steps.{AreNew, AreSessions, IsWorld, RequestStands, TakesTurn, WorldStands}
+use Rattle.disk_model.specs.declared.disk.Disk.{Ghosts}
+use Rattle.vault.specs.Leads.{StoreStands}
+use Rattle.vault.specs.Pours.{AreWhole}
+use Rattle.vault.specs.Vaults.{IsVault}
+use Rattle.vault.specs.declared.vault.Vault.{Vault}
 use Rattle.blob_steps.specs.declared.session.Session.{Session}
 use Rattle.blob_steps.specs.declared.session.Stage.{Stage}
 use Rattle.blob_steps.specs.declared.session.Stage.TheVariants.{Waiting}
@@ -59,28 +58,25 @@ AreNew-push xs ys x n is long new begun stands = (
 none-there : {X : Type 0} (xs : List X) (i : ℕ) (x : X) → xs ≡ [] → slice_get xs i ≡ Some x → ⊥
 none-there {X = X} xs i x none is = let gone : None ≡ Some x = sym (ap (λ (ys : List X). slice_get ys i) none) ∙ is in absurd (cc gone)
 
--- no states stand for no objects
-SameObjects-none : (states : FinMap key_order State) → states ≡ empty → SameObjects states empty
-SameObjects-none states none key =
-    let state : get (empty {X = State} {R = key_order}) key ≡ None = get-empty key_order key in
-    let object : get (empty {X = Object} {R = key_order}) key ≡ None = get-empty key_order key in
-    subst (λ (m : FinMap key_order State). BothStand (get m key) (get (empty {X = Object} {R = key_order}) key)) (sym none)
-    (subst (λ (o : Option Object). BothStand (get (empty {X = State} {R = key_order}) key) o) (sym object) (subst (λ (s : Option State). BothStand s None) (sym state) tt))
-
 -- the world of a run that begins
-pub WorldStands-new : (mine : World) → AreNew mine.sessions.items → mine.queue ≡ [] → mine.store.relation.states ≡ empty → mine.store.last ≡ 0 → WorldStands mine (world_over empty_store)
-WorldStands-new mine new queue states last = record {
-  store = record { objects = SameObjects-none mine.store.relation.states states; last = last };
+pub WorldStands-new : {D : Type 0} (mine : World D) (store : Store) → AreNew mine.sessions.items → mine.queue ≡ [] → StoreStands mine.vault.memory store
+    → WorldStands mine (world_over store)
+WorldStands-new mine store new queue stands = record {
+  store = stands;
   sessions = λ number one is. (new number one is).1;
   queue = sym (ap (map (λ (r : Request). r.session)) queue);
   requests = λ i request is. absurd (none-there mine.queue i request queue is);
 }
 
-pub IsWorld-new : (mine : World) → IsSound mine.store → length mine.sessions.items ≡ 16 → AreNew mine.sessions.items → mine.queue ≡ [] → mine.store.relation.states ≡ empty
-    → mine.store.last ≡ 0 → IsWorld mine
-IsWorld-new mine sound sixteen new queue states last = record {
-  some = (world_over empty_store, WorldStands-new mine new queue states last);
-  store = sound;
+pub IsWorld-new : {D : Type 0} (g : Ghosts D) (mine : World D) → IsVault g mine.vault.disk mine.vault.memory mine.vault.shut → mine.vault.shut ≡ None
+    → length mine.sessions.items ≡ 16 → AreNew mine.sessions.items → mine.queue ≡ [] → IsWorld g mine
+IsWorld-new g mine vault unshut sixteen new queue = record {
+  some = (
+    λ number. turn.new_session,
+    record { sessions = λ number one is. (new number one is).1; requests = λ i request is. absurd (none-there mine.queue i request queue is) },
+  );
+  vault = vault;
+  unshut = unshut;
   sixteen = sixteen;
   whole = subst AreWhole (sym queue) (λ k d less. absurd (omega (arith, less)));
   wait = λ i request is. absurd (none-there mine.queue i request queue is);
@@ -88,11 +84,11 @@ IsWorld-new mine sound sixteen new queue states last = record {
 }
 
 -- What a commit makes of the program's world: its session waits, and its request is the last of the queue.
-pub record IsQueued (mine new : World) (number : ℕ) (old later : Session) (request : Request) : Type 0 where
+pub record IsQueued {D : Type 0} (mine new : World D) (number : ℕ) (old later : Session) (request : Request) : Type 0 where
   pub set_is : IsSet mine.sessions.items new.sessions.items number old later
-  pub store : new.store ≡ mine.store
+  pub vault : new.vault ≡ mine.vault
   pub queue : new.queue ≡ mine.queue ++ request ∷ []
-  pub asks : (world : model.World) → WorldStands mine world → Asks (world.sessions number) number request later
+  pub asks : (theirs : turn.Session) → SessionStands old number theirs → Asks theirs number request later
   pub begun : later.begun ≡ old.begun
 
 -- the stage of a waiting session
@@ -108,72 +104,88 @@ open-waits old number theirs request stands opened waits =
     let both : turn.Open (transaction_of request) ≡ turn.Waiting waiting.0 = sym opened ∙ waiting.1 in
     absurd (cc both)
 
-module _ (mine new : World) (number : ℕ) (old later : Session) (request : Request) (sound : IsWorld mine) (done : IsQueued mine new number old later request) where
+module _ {D : Type 0} (g : Ghosts D) (mine new : World D) (number : ℕ) (old later : Session) (request : Request) (sound : IsWorld g mine)
+    (done : IsQueued mine new number old later request) where
+  -- what the session asks for
+  asks-in : (sessions : ℕ → turn.Session) → AreSessions mine sessions → Asks (sessions number) number request later
+  asks-in sessions are = done.asks (sessions number) (are.sessions number old done.set_is.there)
+
   -- the session after the commit
-  stands-later : (world : model.World) → WorldStands mine world
-      → SessionStands later number (session_after (world.sessions number) turn.Commit (turn.turn world.store (world.sessions number) turn.Commit))
-  stands-later world is =
-      let asks = done.asks world is in
-      let before : SessionStands old number (world.sessions number) = is.sessions number old done.set_is.there in
+  stands-later : (store : Store) (sessions : ℕ → turn.Session) → AreSessions mine sessions
+      → SessionStands later number (session_after (sessions number) turn.Commit (turn.turn store (sessions number) turn.Commit))
+  stands-later store sessions are =
+      let asks = asks-in sessions are in
+      let before : SessionStands old number (sessions number) = are.sessions number old done.set_is.there in
       record {
         begun = done.begun ∙ before.begun;
-        stage = waiting-stands later.stage number later.begun (turn.turn world.store (world.sessions number) turn.Commit).stage request asks.waits
-            (ap (λ (s : turn.Stage). (stage_turn world.store s turn.Commit).stage) asks.opened);
+        stage = waiting-stands later.stage number later.begun (turn.turn store (sessions number) turn.Commit).stage request asks.waits
+            (ap (λ (s : turn.Stage). (stage_turn store s turn.Commit).stage) asks.opened);
       }
 
+  -- the sessions after it
+  abbrev sessions-after : Store → (ℕ → turn.Session) → ℕ → turn.Session
+  sessions-after store sessions = with_session sessions number (session_after (sessions number) turn.Commit (turn.turn store (sessions number) turn.Commit))
+
   -- its request
-  request-later : (world : model.World) → WorldStands mine world
-      → RequestStands request (with_session world.sessions number (session_after (world.sessions number) turn.Commit (turn.turn world.store (world.sessions number) turn.Commit)) request.session)
-  request-later world is =
-      let asks = done.asks world is in
-      let after : turn.Session = session_after (world.sessions number) turn.Commit (turn.turn world.store (world.sessions number) turn.Commit) in
-      subst (RequestStands request) (sym (session-here world.sessions number after request.session (same-session request.session number asks.session)))
-      (record { begun = sym asks.nth; stage = ap (λ (s : turn.Stage). (stage_turn world.store s turn.Commit).stage) asks.opened }) where
+  request-later : (store : Store) (sessions : ℕ → turn.Session) → AreSessions mine sessions → RequestStands request (sessions-after store sessions request.session)
+  request-later store sessions are =
+      let asks = asks-in sessions are in
+      let after : turn.Session = session_after (sessions number) turn.Commit (turn.turn store (sessions number) turn.Commit) in
+      subst (RequestStands request) (sym (session-here sessions number after request.session (same-session request.session number asks.session)))
+      (record { begun = sym asks.nth; stage = ap (λ (s : turn.Stage). (stage_turn store s turn.Commit).stage) asks.opened }) where
         same-session : (n m : ℕ) → n ≡ m → (n == m) ≡ true
         same-session n m is = subst (λ (k : ℕ). (n == k) ≡ true) is (same-self n)
 
+  queued-sessions : (store : Store) (sessions : ℕ → turn.Session) → AreSessions mine sessions → AreSessions new (sessions-after store sessions)
+  queued-sessions store sessions are = record {
+    sessions = sessions-turned mine.sessions.items new.sessions.items number old later sessions
+        (session_after (sessions number) turn.Commit (turn.turn store (sessions number) turn.Commit)) done.set_is (stands-later store sessions are) are.sessions;
+    requests = λ i one there. elim (get-push mine.queue request one i (ap (λ (rs : List Request). slice_get rs i) (sym done.queue) ∙ there)) [
+      | inl before ↦ request-turned store sessions number turn.Commit one (are.requests i one before)
+      | inr last ↦ subst (λ (r : Request). RequestStands r (sessions-after store sessions r.session)) (sym last.1) (request-later store sessions are)
+    ];
+  }
+
   queued-stands : (world : model.World) → WorldStands mine world → WorldStands new (turned world number turn.Commit (turn.turn world.store (world.sessions number) turn.Commit)).world
   queued-stands world is =
-      let asks = done.asks world is in
+      let are : AreSessions mine world.sessions = record { sessions = is.sessions; requests = is.requests } in
+      let asks = asks-in world.sessions are in
+      let after = queued-sessions world.store world.sessions are in
       record {
-        store = subst (λ (s : MineStore). StoreStands s world.store) (sym done.store) is.store;
-        sessions = sessions-turned mine.sessions.items new.sessions.items number old later world.sessions
-            (session_after (world.sessions number) turn.Commit (turn.turn world.store (world.sessions number) turn.Commit)) done.set_is (stands-later world is) is.sessions;
+        store = subst (λ (v : Vault D). StoreStands v.memory world.store) (sym done.vault) is.store;
+        sessions = after.sessions;
         queue = ap (λ (s : turn.Stage). queue_after turn.Commit s world.queue number) asks.opened
             ∙ ap (λ (ns : List ℕ). ns ++ number ∷ []) is.queue
             ∙ ap (λ (n : ℕ). map (λ (r : Request). r.session) mine.queue ++ n ∷ []) (sym asks.session)
             ∙ sym (map-append (λ (r : Request). r.session) mine.queue (request ∷ []))
             ∙ ap (map (λ (r : Request). r.session)) (sym done.queue);
-        requests = λ i one there. elim (get-push mine.queue request one i (ap (λ (rs : List Request). slice_get rs i) (sym done.queue) ∙ there)) [
-          | inl before ↦ request-turned world.store world.sessions number turn.Commit one (is.requests i one before)
-          | inr last ↦
-              (let after : ℕ → turn.Session =
-              with_session world.sessions number (session_after (world.sessions number) turn.Commit (turn.turn world.store (world.sessions number) turn.Commit)) in
-              subst (λ (r : Request). RequestStands r (after r.session)) (sym last.1) (request-later world is))
-        ];
+        requests = after.requests;
       }
 
   -- no request of the session was in the queue
   none-queued : (i : ℕ) (one : Request) → slice_get mine.queue i ≡ Some one → one.session ≡ number → ⊥
   none-queued i one there is =
-      let world : model.World = sound.some.0 in
+      let sessions : ℕ → turn.Session = sound.some.0 in
       let waits = sound.wait i one there in
       let here : slice_get mine.sessions.items number ≡ Some waits.0 = ap (slice_get mine.sessions.items) (sym is) ∙ waits.1 in
       let both : Some old ≡ Some waits.0 = sym done.set_is.there ∙ here in
       let same : old ≡ waits.0 = cc in
-      open-waits old number (world.sessions number) request (sound.some.1.sessions number old done.set_is.there) (done.asks world sound.some.1).opened
+      open-waits old number (sessions number) request (sound.some.1.sessions number old done.set_is.there) (asks-in sessions sound.some.1).opened
       (ap (λ (s : Session). s.stage) same ∙ waits.2)
 
   -- A session's commit was queued.
-  pub TakesTurn-queued : TakesTurn mine new number turn.Commit answer.Queued
+  pub TakesTurn-queued : TakesTurn g mine new number turn.Commit answer.Queued
   TakesTurn-queued =
-      let first : Asks (sound.some.0.sessions number) number request later = done.asks sound.some.0 sound.some.1 in
+      let first : Asks (sound.some.0 number) number request later = asks-in sound.some.0 sound.some.1 in
       record {
-        line_is = λ world is. sym (ap (λ (s : turn.Stage). (stage_turn world.store s turn.Commit).line) (done.asks world is).opened);
+        line_is = λ world is.
+            sym (ap (λ (s : turn.Stage). (stage_turn world.store s turn.Commit).line)
+            (asks-in world.sessions (record { sessions = is.sessions; requests = is.requests })).opened);
         stands = queued-stands;
         sound = record {
-          some = ((turned sound.some.0 number turn.Commit (turn.turn sound.some.0.store (sound.some.0.sessions number) turn.Commit)).world, queued-stands sound.some.0 sound.some.1);
-          store = subst IsSound (sym done.store) sound.store;
+          some = (sessions-after empty_store sound.some.0, queued-sessions empty_store sound.some.0 sound.some.1);
+          vault = subst (λ (v : Vault D). IsVault g v.disk v.memory v.shut) (sym done.vault) sound.vault;
+          unshut = ap (λ (v : Vault D). v.shut) done.vault ∙ sound.unshut;
           sixteen = sixteen-set mine.sessions.items new.sessions.items number old later done.set_is sound.sixteen;
           whole = subst AreWhole (sym done.queue) (All-append (λ (r : Request). NoAppends r.writes) mine.queue (request ∷ []) sound.whole
               (λ k d less. subst (λ (r : Request). NoAppends r.writes) (only k d less) first.appends));
@@ -191,7 +203,7 @@ module _ (mine new : World) (number : ℕ) (old later : Session) (request : Requ
               two-apart i j one other less front back;
         };
         begun = λ n have. begun-set mine new number old later n done.set_is (omega (arith, done.begun)) have;
-        store = done.store;
+        vault = done.vault;
       } where
         only : (k : ℕ) (d : Request) (less : k < 1) → request ≡ slice_index_or (request ∷ []) k d
         only zero d less = refl
@@ -204,6 +216,6 @@ module _ (mine new : World) (number : ℕ) (old later : Session) (request : Requ
             → (slice_get mine.queue j ≡ Some other) ⊎ ((j ≡ length mine.queue) × (other ≡ request)) → one.session ≢ other.session
         two-apart i j one other less (inl here) (inl there) same = sound.distinct i j one other less here there same
         two-apart i j one other less (inl here) (inr last) same =
-            none-queued i one here (same ∙ ap (λ (r : Request). r.session) last.1 ∙ (done.asks sound.some.0 sound.some.1).session)
+            none-queued i one here (same ∙ ap (λ (r : Request). r.session) last.1 ∙ (asks-in sound.some.0 sound.some.1).session)
         two-apart i j one other less (inr first) (inl there) same = omega (arith, less, first.0, get-below mine.queue other j there)
         two-apart i j one other less (inr first) (inr last) same = omega (arith, less, first.0, last.0)

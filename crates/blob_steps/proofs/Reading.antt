@@ -3,8 +3,8 @@ use Rattle.std.proofs.Common.{◌≡◌, ◌≢◌, ℕ, Bool, true, false, cond
 use Rattle.std.specs.Prelude.{⊤, is_some, option_map}
 use Rattle.std.specs.FinMap.{get}
 use Rattle.blob_script.specs.Answers.{model_line}
-use Rattle.blob_store.specs.declared.look.Look.{Look}
-use Rattle.blob_store.specs.declared.look.Look.TheVariants as look
+use Rattle.blob_steps.specs.declared.look.Look.{Look}
+use Rattle.blob_steps.specs.declared.look.Look.TheVariants as look
 use Rattle.store_model.specs.Answer as answer
 use Rattle.store_model.specs.Store.{Object, Store, content_at, content_of_object, number_at}
 use Rattle.store_model.specs.Transaction as model
@@ -26,7 +26,7 @@ use Rattle.blob_steps.specs.Sessions.{LooksTo, SessionStands, StageStands, Turns
 use Rattle.blob_steps.specs.declared.session.Looked.TheVariants as looked
 use Rattle.blob_steps.specs.declared.session.Session.{Session}
 use Rattle.blob_steps.specs.declared.session.Stage.TheVariants as stage
-use Rattle.blob_store.specs.Looks.{show_of}
+use Rattle.blob_steps.specs.Looks.{show_of}
 
 -- a change other than more bytes, or none
 abbrev pub NoMore : Option model.Change → Type 0

@@ -3,8 +3,8 @@ use Rattle.std.proofs.Common.{◌≡◌, ℕ, List, [], ◌++◌, length, Option
 use Rattle.std.specs.Prelude.{option_map}
 use Rattle.std.specs.FinMap.{get}
 use Rattle.blob_state.specs.declared.values.Print.{Print}
-use Rattle.blob_store.specs.Looks.{show_of}
-use Rattle.blob_store.specs.declared.look.Look.TheVariants as look
+use Rattle.blob_steps.specs.Looks.{show_of}
+use Rattle.blob_steps.specs.declared.look.Look.TheVariants as look
 use Rattle.store_model.specs.Answer as answer
 use Rattle.store_model.specs.Answer.{answer_text}
 use Rattle.store_model.specs.Hash.{sha256}

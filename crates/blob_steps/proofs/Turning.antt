@@ -5,28 +5,35 @@ use Rattle.std.proofs.lemmas.Bool.Decides.{nat_tests}
 use Rattle.std.proofs.lemmas.List.{length-set}
 use Rattle.std.specs.Prelude.{option_map, slice_get, slice_index_or, map, Result, Ok, Err, IfOk, OnOk}
 use Rattle.std.proofs.lemmas.Option.{slice_get-get_or}
+use Rattle.std.specs.Cmp.{eq_by_cmp_equiv}
 use Rattle.std.specs.List.{slice_set as set}
 use Rattle.store_model.specs.Answer as answer
 use Rattle.store_model.specs.Play.{queue_after, turned}
+use Rattle.store_model.specs.Key.{key_order}
 use Rattle.store_model.specs.Standing.{BothStand}
 use Rattle.store_model.specs.State.{State}
 use Rattle.store_model.specs.Store.{Object, Store, number_at}
-use Rattle.std.specs.FinMap.{get}
+use Rattle.std.specs.FinMap.{empty, get, get-empty, get-insert, insert}
 use Rattle.store_model.specs.Transaction.{Transaction}
 use Rattle.store_model.specs.Turn as turn
 use Rattle.store_model.specs.Turn.{begun_after, session_after, stage_turn}
 use Rattle.store_model.specs.World as model
 use Rattle.store_model.specs.World.{with_session}
+use Rattle.store_model.proofs.SortedLaws.{keys_total}
 use Rattle.txn.specs.Requests.{transaction_of}
 use Rattle.txn.specs.declared.request.Request.{Request}
-use Rattle.blob_steps.specs.Sessions.{HasTurned, IsNotOpen, IsSet, SessionStands, StageStands, TurnsTo}
-use Rattle.blob_steps.specs.Steps.{HaveBegun, IsWorld, RequestStands, TakesTurn, WorldStands}
-use Rattle.blob_store.specs.Stores.{AreWhole, IsSound, StoreStands}
+use Rattle.blob_steps.specs.Sessions.{HasTurned, IsNotOpen, IsSet, SessionStands, StageStands, TurnsSomehow, TurnsTo}
+use Rattle.blob_steps.specs.Steps.{AreSessions, HaveBegun, IsWorld, RequestStands, TakesTurn, WorldStands}
 use Rattle.blob_steps.specs.declared.session.Session.{Session}
 use Rattle.blob_steps.specs.declared.session.Stage.{Stage}
 use Rattle.blob_steps.specs.declared.session.Stage.TheVariants.{Free, Open, Waiting}
-use Rattle.blob_store.specs.declared.store.Store.{Store as MineStore}
 use Rattle.blob_steps.specs.declared.world.World.{World}
+use Rattle.disk_model.specs.declared.disk.Disk.{Ghosts}
+use Rattle.vault.specs.Leads.{StoreStands}
+use Rattle.vault.specs.Pours.{AreWhole}
+use Rattle.vault.specs.Vaults.{IsVault}
+use Rattle.vault.specs.declared.memory.Memory.{Memory}
+use Rattle.vault.specs.declared.vault.Vault.{Vault}
 
 -- one element of a list was set
 pub get-set_here : {X : Type 0} (xs : List X) (i : ℕ) (y was : X) → slice_get xs i ≡ Some was → slice_get (set xs i y) i ≡ Some y
@@ -139,7 +146,7 @@ request-turned store sessions number action request stands =
     ]
 
 -- no session has begun more than one more
-pub begun-set : (mine new : World) (number : ℕ) (was later : Session) (n : ℕ) → IsSet mine.sessions.items new.sessions.items number was later → later.begun ≤ was.begun + 1
+pub begun-set : {D : Type 0} (mine new : World D) (number : ℕ) (was later : Session) (n : ℕ) → IsSet mine.sessions.items new.sessions.items number was later → later.begun ≤ was.begun + 1
     → HaveBegun n mine → HaveBegun (n + 1) new
 begun-set mine new number was later n set_is more have =
     IsSet-each mine.sessions.items new.sessions.items number was later (λ k one. one.begun ≤ n + 1) set_is
@@ -165,70 +172,107 @@ pub sixteen-set : (old new : List Session) (number : ℕ) (was later : Session) 
 sixteen-set old new number was later set_is sixteen = ap (λ (xs : List Session). length xs) set_is.new_is ∙ length-set old number later ∙ sixteen
 
 -- A session of the program's world took its turn, and the world is where that leads.
-pub record Moves (mine new : World) (number : ℕ) (action : turn.Action) : Type 0 where
+pub record Moves {D : Type 0} (g : Ghosts D) (mine new : World D) (number : ℕ) (action : turn.Action) : Type 0 where
   pub stands : (world : model.World) → WorldStands mine world
       → WorldStands new (turned world number action (turn.turn world.store (world.sessions number) action)).world
-  pub sound : IsWorld new
+  pub sound : IsWorld g new
   pub begun : (n : ℕ) → HaveBegun n mine → HaveBegun (n + 1) new
 
--- A session alone took its turn: the store and the queue are as they were.
-pub record Alone (mine new : World) (number : ℕ) (was later : Session) : Type 0 where
+-- A session alone took its turn: what the vault has in memory and the queue are as they were.
+pub record Alone {D : Type 0} (g : Ghosts D) (mine new : World D) (number : ℕ) (was later : Session) : Type 0 where
   pub set_is : IsSet mine.sessions.items new.sessions.items number was later
-  pub store : new.store ≡ mine.store
+  pub memory : new.vault.memory ≡ mine.vault.memory
+  pub kept : IsVault g new.vault.disk new.vault.memory new.vault.shut
+  pub unshut : new.vault.shut ≡ None
   pub queue : new.queue ≡ mine.queue
   pub begun : later.begun ≤ was.begun + 1
   pub waits : was.stage ≡ Waiting → later.stage ≡ Waiting
+
+-- so is the whole vault
+pub Alone-same : {D : Type 0} (g : Ghosts D) (mine new : World D) (number : ℕ) (was later : Session) → IsWorld g mine → new.vault ≡ mine.vault
+    → IsSet mine.sessions.items new.sessions.items number was later → new.queue ≡ mine.queue → later.begun ≤ was.begun + 1
+    → (was.stage ≡ Waiting → later.stage ≡ Waiting) → Alone g mine new number was later
+Alone-same {D = D} g mine new number was later sound same set_is queue begun waits = record {
+  set_is = set_is;
+  memory = ap (λ (v : Vault D). v.memory) same;
+  kept = subst (λ (v : Vault D). IsVault g v.disk v.memory v.shut) (sym same) sound.vault;
+  unshut = ap (λ (v : Vault D). v.shut) same ∙ sound.unshut;
+  queue = queue;
+  begun = begun;
+  waits = waits;
+}
 
 -- an action other than a commit leaves the queue as it is
 abbrev pub LeavesQueue : turn.Action → Type 0
 LeavesQueue action = (stage : turn.Stage) (queue : List ℕ) (number : ℕ) → queue_after action stage queue number ≡ queue
 
-module _ (mine new : World) (number : ℕ) (was later : Session) (action : turn.Action) (sound : IsWorld mine) (alone : Alone mine new number was later)
+module _ {D : Type 0} (g : Ghosts D) (mine new : World D) (number : ℕ) (was later : Session) (action : turn.Action) (sound : IsWorld g mine)
+    (alone : Alone g mine new number was later)
     (turns : (world : model.World) → WorldStands mine world
     → SessionStands later number (session_after (world.sessions number) action (turn.turn world.store (world.sessions number) action)))
+    (some : TurnsSomehow was number action later)
     (queued : (world : model.World) → WorldStands mine world → queue_after action (world.sessions number).stage world.queue number ≡ world.queue) where
+  request-was : (i : ℕ) (request : Request) → slice_get new.queue i ≡ Some request → slice_get mine.queue i ≡ Some request
+  request-was i request there = ap (λ (rs : List Request). slice_get rs i) (sym alone.queue) ∙ there
+
   alone-stands : (world : model.World) → WorldStands mine world → WorldStands new (turned world number action (turn.turn world.store (world.sessions number) action)).world
   alone-stands world is = record {
-    store = subst (λ (s : MineStore). StoreStands s world.store) (sym alone.store) is.store;
+    store = subst (λ (m : Memory). StoreStands m world.store) (sym alone.memory) is.store;
     sessions = sessions-turned mine.sessions.items new.sessions.items number was later world.sessions
         (session_after (world.sessions number) action (turn.turn world.store (world.sessions number) action)) alone.set_is (turns world is) is.sessions;
     queue = queued world is ∙ is.queue ∙ ap (map (λ (request : Request). request.session)) (sym alone.queue);
-    requests = λ i request there.
-        request-turned world.store world.sessions number action request (is.requests i request (ap (λ (rs : List Request). slice_get rs i) (sym alone.queue) ∙ there));
+    requests = λ i request there. request-turned world.store world.sessions number action request (is.requests i request (request-was i request there));
   }
 
-  pub Moves-alone : Moves mine new number action
+  -- the sessions, whatever the store
+  alone-sessions : (sessions : ℕ → turn.Session) → AreSessions mine sessions → (after : ℕ → turn.Session) × AreSessions new after
+  alone-sessions sessions are =
+      let over = some (sessions number) (are.sessions number was alone.set_is.there) in
+      let theirs : turn.Session = session_after (sessions number) action (turn.turn over.0 (sessions number) action) in (
+        with_session sessions number theirs,
+        record {
+          sessions = sessions-turned mine.sessions.items new.sessions.items number was later sessions theirs alone.set_is over.1 are.sessions;
+          requests = λ i request there. request-turned over.0 sessions number action request (are.requests i request (request-was i request there));
+        },
+      )
+
+  pub Moves-alone : Moves g mine new number action
   Moves-alone = record {
     stands = alone-stands;
     sound = record {
-      some = ((turned sound.some.0 number action (turn.turn sound.some.0.store (sound.some.0.sessions number) action)).world, alone-stands sound.some.0 sound.some.1);
-      store = subst IsSound (sym alone.store) sound.store;
+      some = alone-sessions sound.some.0 sound.some.1;
+      vault = alone.kept;
+      unshut = alone.unshut;
       sixteen = sixteen-set mine.sessions.items new.sessions.items number was later alone.set_is sound.sixteen;
       whole = subst AreWhole (sym alone.queue) sound.whole;
       wait = λ i request there.
-          let before = sound.wait i request (ap (λ (rs : List Request). slice_get rs i) (sym alone.queue) ∙ there) in
+          let before = sound.wait i request (request-was i request there) in
           waits-set mine.sessions.items new.sessions.items number was later request.session before.0 alone.set_is alone.waits before.1 before.2;
-      distinct = λ i j one other less here there.
-          sound.distinct i j one other less (ap (λ (rs : List Request). slice_get rs i) (sym alone.queue) ∙ here) (ap (λ (rs : List Request). slice_get rs j) (sym alone.queue) ∙ there);
+      distinct = λ i j one other less here there. sound.distinct i j one other less (request-was i one here) (request-was j other there);
     };
     begun = λ n have. begun-set mine new number was later n alone.set_is alone.begun have;
   }
 
 -- The session was answered this line, whatever the world.
-pub TakesTurn-alone : (mine new : World) (number : ℕ) (was later : Session) (action : turn.Action) (line : answer.AnswerLine) → IsWorld mine → Alone mine new number was later
+pub TakesTurn-alone : {D : Type 0} (g : Ghosts D) (mine new : World D) (number : ℕ) (was later : Session) (action : turn.Action) (line : answer.AnswerLine) → IsWorld g mine
+    → new.vault ≡ mine.vault → Alone g mine new number was later
     → ((world : model.World) → WorldStands mine world → TurnsTo world.store (world.sessions number) action number later line)
-    → ((world : model.World) → WorldStands mine world → queue_after action (world.sessions number).stage world.queue number ≡ world.queue) → TakesTurn mine new number action line
-TakesTurn-alone mine new number was later action line sound alone turns queued =
-    let moves : Moves mine new number action = Moves-alone mine new number was later action sound alone (λ world is. (turns world is).stands) queued in
-    record { line_is = λ world is. (turns world is).line_is; stands = moves.stands; sound = moves.sound; begun = moves.begun; store = alone.store }
+    → TurnsSomehow was number action later
+    → ((world : model.World) → WorldStands mine world → queue_after action (world.sessions number).stage world.queue number ≡ world.queue)
+    → TakesTurn g mine new number action line
+TakesTurn-alone g mine new number was later action line sound same alone turns some queued =
+    let moves : Moves g mine new number action = Moves-alone g mine new number was later action sound alone (λ world is. (turns world is).stands) some queued in
+    record { line_is = λ world is. (turns world is).line_is; stands = moves.stands; sound = moves.sound; begun = moves.begun; vault = same }
 
 -- A session took its turn over the program's store.
-pub TakesTurn-turned : (mine new : World) (number : ℕ) (action : turn.Action) (line : answer.AnswerLine) → IsWorld mine → LeavesQueue action → new.store ≡ mine.store → new.queue ≡ mine.queue
-    → HasTurned mine.store mine.sessions.items new.sessions.items number action line → TakesTurn mine new number action line
-TakesTurn-turned mine new number action line sound leaves store_is queue_is done =
-    TakesTurn-alone mine new number done.was done.later action line sound
-    (record { set_is = done.set_is; store = store_is; queue = queue_is; begun = omega (arith, done.begun); waits = done.waits })
+pub TakesTurn-turned : {D : Type 0} (g : Ghosts D) (mine new : World D) (number : ℕ) (action : turn.Action) (line : answer.AnswerLine) → IsWorld g mine → LeavesQueue action
+    → new.vault ≡ mine.vault → new.queue ≡ mine.queue
+    → HasTurned mine.vault.memory mine.sessions.items new.sessions.items number action line → TakesTurn g mine new number action line
+TakesTurn-turned g mine new number action line sound leaves same queue_is done =
+    TakesTurn-alone g mine new number done.was done.later action line sound same
+    (Alone-same g mine new number done.was done.later sound same done.set_is queue_is (omega (arith, done.begun)) done.waits)
     (λ world is. done.turns (world.sessions number) world.store is.store (is.sessions number done.was done.set_is.there))
+    done.some
     (λ world is. leaves (world.sessions number).stage world.queue number)
 
 -- a commit that isn't queued leaves the queue as it is
@@ -246,7 +290,23 @@ number-alike (Some state) None stands = absurd stands
 number-alike (Some state) (Some object) stands = ap Some (sym stands.number)
 
 -- the number of a key in the store is that of the state that the program found
-pub number-found : {X : Type 0} (now : X → State) (mine : MineStore) (store : Store) (key : List ℕ) (found : Option X) → StoreStands mine store
+pub number-found : {X : Type 0} (now : X → State) (mine : Memory) (store : Store) (key : List ℕ) (found : Option X) → StoreStands mine store
     → option_map now found ≡ get mine.relation.states key → number_at store key ≡ option_map (λ (x : X). (now x).born) found
 number-found now mine store key None is found = number-alike (get mine.relation.states key) (get store.objects key) (is.objects key) ∙ ap (option_map (λ (s : State). s.born)) (sym found)
 number-found now mine store key (Some x) is found = number-alike (get mine.relation.states key) (get store.objects key) (is.objects key) ∙ ap (option_map (λ (s : State). s.born)) (sym found)
+
+-- there is a store with a number under a key, or with none, and with a last number
+pub store-with : (key : List ℕ) (number : Option ℕ) (front : ℕ) → (store : Store) × (store.last ≡ front) × (number_at store key ≡ number)
+store-with key None front = (
+  record { objects = empty; last = front },
+  refl,
+  ap (option_map (λ (o : Object). o.number)) (get-empty key_order key),
+)
+store-with key (Some number) front =
+    let object : Object = record { content = []; number = number; place = record { heads = []; tail = None } } in (
+      record { objects = insert empty key object; last = front },
+      refl,
+      ap (option_map (λ (o : Object). o.number))
+          (get-insert keys_total (empty {X = Object} {R = key_order}) key object key
+          ∙ ap (λ (b : Bool). cond b (Some object) (get {X = Object} {R = key_order} empty key)) ((eq_by_cmp_equiv keys_total).refl key)),
+    )

@@ -42,11 +42,15 @@ no_check same = cc
 is_check : (words : List (List ℕ)) (form : command.Form) → IsForm words (model_form form) → Some form ≡ Some command_form.Check → IsForm words Check
 is_check words command_form.Check is same = is
 is_check words command_form.Show is same = absurd cc
+is_check words command_form.Steps is same = absurd cc
 is_check words (command_form.Format units room) is same = absurd cc
 is_check words (command_form.Fresh units room) is same = absurd cc
 
 show_apart : model_form command_form.Show ≡ Check → ⊥
 show_apart same = cc
+
+steps_apart : model_form command_form.Steps ≡ Check → ⊥
+steps_apart same = cc
 
 format_apart : (units room : ℕ) → model_form (command_form.Format units room) ≡ Check → ⊥
 format_apart units room same = cc
@@ -57,6 +61,7 @@ fresh_apart units room same = cc
 check_read : (words : List (List ℕ)) (form : command.Form) → IsForm words (model_form form) → IsForm words Check → Some form ≡ Some command_form.Check
 check_read words command_form.Check is check = λ i. Some command_form.Check
 check_read words command_form.Show is check = absurd (show_apart (form-one words (model_form command_form.Show) Check is check))
+check_read words command_form.Steps is check = absurd (steps_apart (form-one words (model_form command_form.Steps) Check is check))
 check_read words (command_form.Format units room) is check =
     absurd (format_apart units room (form-one words (model_form (command_form.Format units room)) Check is check))
 check_read words (command_form.Fresh units room) is check =

@@ -1,11 +1,11 @@
 -- What each form of words does, and the run of a command line as a whole.
-use Rattle.std.specs.Prelude.{◌≡◌, ◌<◌, ◌↔◌, ◌⊎◌, ℕ, ⊤, IsTrue, List, Option, Some, None}
+use Rattle.std.specs.Prelude.{◌≡◌, ◌<◌, ◌≤◌, ◌↔◌, ◌⊎◌, ℕ, ⊤, IsTrue, List, Option, Some, None}
 use Rattle.std.specs.FinMap.{empty}
 use Rattle.std.specs.Io.KnownBytes.{Appends}
 use Rattle.blob_base.specs.declared.faults.StoreRefusal.{StoreRefusal}
 use Rattle.blob_base.specs.declared.faults.StoreRefusal.TheVariants.{TooSmall}
 use Rattle.blob_report.specs.Ends.{TookFront}
-use Rattle.blob_report.specs.Reports.{Checked, IsAtWork, NamesDamage, Showed}
+use Rattle.blob_report.specs.Reports.{Checked, IsAtWork, NamesDamage, Showed, TurnedAway}
 use Rattle.blob_script.specs.declared.form.Form as command
 use Rattle.blob_script.specs.declared.form.Form.TheVariants as command_form
 use Rattle.blob_script.specs.declared.status.Status.{Status}
@@ -16,17 +16,23 @@ use Rattle.io_ends.specs.declared.traits.Source as source_trait
 use Rattle.io_ends.specs.declared.traits.Sink as sink_trait
 use Rattle.recover.specs.Openings.{IsMetadata}
 use Rattle.recover.specs.Turns.{IsTurnPage, found_by}
-use Rattle.blob_steps.specs.Runs.{Closed, Ended, IsRaised, KeepsEnds, counts_of}
-use Rattle.store_model.specs.Form.{Check, Form, Format, Fresh, IsForm, IsNoForm, Show}
+use Rattle.blob_steps.specs.Going.{IsAccepted}
+use Rattle.blob_steps.specs.Runs.{Closed, Ended, EndedSo, IsRaised, KeepsEnds, counts_of}
+use Rattle.store_model.specs.Cost.{Cost, no_cost, with_format, with_opening}
+use Rattle.store_model.specs.Form.{Check, Form, Format, Fresh, IsForm, IsNoForm, Show, Steps}
 use Rattle.store_model.specs.Layout.{Layout, total_pages}
-use Rattle.store_model.specs.Reading.{Opened, Reads}
+use Rattle.store_model.specs.Reading.{Found, Opened, Reads}
 use Rattle.store_model.specs.Report.{format_text}
-use Rattle.store_model.specs.Store.{empty_store}
+use Rattle.store_model.specs.State.{State}
+use Rattle.store_model.specs.Store.{Store, empty_store}
+use Rattle.store_model.specs.Survival.{ReadsAs}
+use Rattle.store_model.specs.Verify.{IsDamage}
 
 -- the layout of the store that a form makes, where it makes one
 abbrev pub layout_of : Form → Option Layout
 layout_of (Format layout) = Some layout
 layout_of (Fresh layout) = Some layout
+layout_of Steps = None
 layout_of Show = None
 layout_of Check = None
 
@@ -41,9 +47,9 @@ IsRefusal (status.Refused why) = ⊤
 IsRefusal _ = ⊥
 
 -- a status of damage
-abbrev pub IsDamage : Status → Type 0
-IsDamage (status.Damaged key link want got) = ⊤
-IsDamage _ = ⊥
+abbrev pub IsDamaged : Status → Type 0
+IsDamaged (status.Damaged key link want got) = ⊤
+IsDamaged _ = ⊥
 
 -- each end is as it was
 pub record LeftAlone {S K D : Type 0} (source_old : S) (sink_old : K) (disk_old : D) (source_new : S) (sink_new : K) (disk_new : D) : Type 0 where
@@ -51,15 +57,51 @@ pub record LeftAlone {S K D : Type 0} (source_old : S) (sink_old : K) (disk_old 
   pub sink : sink_new ≡ sink_old
   pub disk : disk_new ≡ disk_old
 
--- A script was run over an empty store of this layout. It is in memory, and nothing of it but contents is written to the disk yet.
+-- a status with which a script's run ends, over a store that was opened
+abbrev pub IsOpened : Status → Type 0
+IsOpened status.DiskFault = ⊥
+IsOpened status.OutOfMemory = ⊥
+IsOpened (status.Refused why) = ⊥
+IsOpened status.Usage = ⊥
+IsOpened _ = ⊤
+
+-- damage that is told is that of a state: bytes were read for it over which this link is the first that fails
+abbrev pub IsDamageOfState : Status → Type 0
+IsDamageOfState (status.Damaged key link want got) = (state : State) × IsDamage state link want got
+IsDamageOfState _ = ⊤
+
+-- A script was run over the store that a disk has. The disk had this cost before.
+pub record DidSteps {S K D : Type 0} (source : source_trait.Ghosts S) (sink : sink_trait.Ghosts K) (disk : disk_trait.Ghosts D) (cost : Cost)
+    (source_old : S) (sink_old : K) (disk_old : D) (how : Status) (source_new : S) (sink_new : K) (disk_new : D) : Type 0 where
+  -- refused where the disk is no store, for this reason, and then nothing was done
+  pub refused : (why : StoreRefusal) → how ≡ status.Refused why → (source_new ≡ source_old) × TurnedAway disk why sink_old sink_new disk_old disk_new
+  -- a script of which any line was run, or none was there, was run over a store
+  pub opened : IsTrue disk.tells → IsOpened how → (found : Found) × Reads (disk.size disk_old) (disk.story disk_old).reads (Opened found)
+  -- over a whole store: which lines of the script were run, and what came of them
+  pub ended : IsTrue disk.tells → (layout : Layout) (start : Store)
+      → ReadsAs (disk.size disk_old) (disk.story disk_old).reads layout start.objects start.last
+      → IsAccepted how × Ended disk layout start cost (with_opening start cost) (sink.frugal sink_old) (source.left source_old)
+      (sink.taken sink_old) (sink.taken sink_new) disk_old disk_new how
+  -- whatever the disk tells
+  pub so : (IsRefusal how → ⊥) → EndedSo (source.left source_old) (sink.taken sink_old) (sink.taken sink_new) how
+  pub damage : IsDamageOfState how
+
+-- A store of this layout was formatted, and a script was run over it.
 pub record DidFresh {S K D : Type 0} (source : source_trait.Ghosts S) (sink : sink_trait.Ghosts K) (disk : disk_trait.Ghosts D) (layout : Layout)
     (source_old : S) (sink_old : K) (disk_old : D) (how : Status) (source_new : S) (sink_new : K) (disk_new : D) : Type 0 where
-  -- refused exactly where the layout exceeds the disk, and then nothing was done
-  pub refused : (why : StoreRefusal) → (how ≡ status.Refused why) ↔ IsTooSmall layout (disk.size disk_old) why
-  pub alone : IsRefusal how → LeftAlone source_old sink_old disk_old source_new sink_new disk_new
+  -- refused where the layout exceeds the disk, and then nothing was done
+  pub small : (why : StoreRefusal) → IsTooSmall layout (disk.size disk_old) why
+      → (how ≡ status.Refused why) × LeftAlone source_old sink_old disk_old source_new sink_new disk_new
+  -- and nowhere else, unless the disk doesn't read as what was written
+  pub refused : IsTrue disk.tells → (why : StoreRefusal) → how ≡ status.Refused why → IsTooSmall layout (disk.size disk_old) why
+  pub away : IsRefusal how → (source_new ≡ source_old) × (sink_new ≡ sink_old)
   -- which lines of the script were run else, and what came of them
-  pub ended : (IsRefusal how → ⊥) → Ended disk layout empty_store (sink.frugal sink_old) (source.left source_old)
+  pub ended : IsTrue disk.tells → total_pages layout ≤ disk.size disk_old
+      → IsAccepted how × Ended disk layout empty_store no_cost (with_opening empty_store (with_format no_cost)) (sink.frugal sink_old) (source.left source_old)
       (sink.taken sink_old) (sink.taken sink_new) disk_old disk_new how
+  -- whatever the disk tells
+  pub so : (IsRefusal how → ⊥) → EndedSo (source.left source_old) (sink.taken sink_old) (sink.taken sink_new) how
+  pub damage : IsDamageOfState how
 
 -- A store of this layout was formatted.
 pub record DidFormat {K D : Type 0} (sink : sink_trait.Ghosts K) (disk : disk_trait.Ghosts D) (layout : Layout)
@@ -89,13 +131,15 @@ pub record DidCheck {K D : Type 0} (sink : sink_trait.Ghosts K) (disk : disk_tra
   pub named : NamesDamage disk how disk_old
   pub wrote : OnlyWrites disk (IsMetadata (disk.size disk_old) (disk.story disk_old).reads) disk_old disk_new
 
--- What a form does. The source is read by `fresh` alone.
+-- What a form does. The source is read by `fresh` and `steps` alone.
 abbrev pub Did : {S K D : Type 0} → source_trait.Ghosts S → sink_trait.Ghosts K → disk_trait.Ghosts D → Form
     → S → K → D → Status → S → K → D → Type 0
 Did source sink disk (Format layout) source_old sink_old disk_old how source_new sink_new disk_new =
     (source_new ≡ source_old) × DidFormat sink disk layout sink_old disk_old how sink_new disk_new
 Did source sink disk (Fresh layout) source_old sink_old disk_old how source_new sink_new disk_new =
     DidFresh source sink disk layout source_old sink_old disk_old how source_new sink_new disk_new
+Did source sink disk Steps source_old sink_old disk_old how source_new sink_new disk_new =
+    DidSteps source sink disk no_cost source_old sink_old disk_old how source_new sink_new disk_new
 Did source sink disk Show source_old sink_old disk_old how source_new sink_new disk_new =
     (source_new ≡ source_old) × DidShow sink disk sink_old disk_old how sink_new disk_new
 Did source sink disk Check source_old sink_old disk_old how source_new sink_new disk_new =
@@ -104,12 +148,12 @@ Did source sink disk Check source_old sink_old disk_old how source_new sink_new 
 -- the words ask for a check, and it found damage
 pub record IsReported (words : List (List ℕ)) (how : Status) : Type 0 where
   pub check : IsForm words Check
-  pub damage : IsDamage how
+  pub damage : IsDamaged how
 
 -- the same of a form that was read
 pub record IsReportedBy (form : Option command.Form) (how : Status) : Type 0 where
   pub check : form ≡ Some command_form.Check
-  pub damage : IsDamage how
+  pub damage : IsDamaged how
 
 -- The run of a command line over three ends: how it ended, and how it left them.
 pub record Run {S K D : Type 0} (source : source_trait.Ghosts S) (sink : sink_trait.Ghosts K) (disk : disk_trait.Ghosts D) (words : List (List ℕ))

@@ -4,8 +4,8 @@ use Rattle.std.specs.Io.KnownBytes.{Appends}
 use Rattle.blob_base.specs.Faults.{Rose}
 use Rattle.blob_base.specs.declared.faults.IoFault.TheVariants.{Failed, OutOfMemory}
 use Rattle.disk_model.specs.declared.disk.Disk.{Ghosts}
-use Rattle.blob_store.specs.declared.fault.StoreFault.{StoreFault}
-use Rattle.blob_store.specs.declared.fault.StoreFault.TheVariants as fault
+use Rattle.blob_steps.specs.declared.fault.StoreFault.{StoreFault}
+use Rattle.blob_steps.specs.declared.fault.StoreFault.TheVariants as fault
 use Rattle.blob_steps.specs.declared.line.LineFault.{LineFault}
 use Rattle.blob_steps.specs.declared.line.LineFault.TheVariants as line
 use Rattle.blob_script.specs.declared.status.Status.{Status}
@@ -14,12 +14,14 @@ use Rattle.blob_steps.specs.declared.world.World.{World}
 use Rattle.blob_steps.specs.Lines.{LineTaken}
 use Rattle.blob_steps.specs.Runs.{Grew, PagesAre}
 use Rattle.blob_steps.specs.Steps.{WorldStands}
-use Rattle.store_model.specs.Cost.{Spent}
+use Rattle.store_model.specs.Cost.{Cost, with_lines}
 use Rattle.store_model.specs.Layout.{Layout}
 use Rattle.store_model.specs.Play.{Played, PlayedLine, play, play_lines, store_behind, text_of}
 use Rattle.store_model.specs.Script.{Line, Malformed, lines_of, line_at}
+use Rattle.store_model.specs.Standing.{AllHeld}
 use Rattle.store_model.specs.Store.{Store}
 use Rattle.store_model.specs.World as model
+use Rattle.vault.specs.Leads.{Costs}
 
 -- the first line that is left is this, for the line of this number
 pub record TakesLine (number : ℕ) (old new : Option (List ℕ)) (what : Line) : Type 0 where
@@ -48,16 +50,34 @@ PlaysOn layout start lines number world first left =
 
 -- A run on the way: it has run some lines and is at the world behind them, the sink took what they print, the disk has what
 -- they made of it, and what is left of the script plays on to the whole.
-pub record Going {D : Type 0} (g : Ghosts D) (start : Store) (mine : World) (number : ℕ) (first left old new : Option (List ℕ)) (was now : D) : Type 0 where
+pub record Going {D : Type 0} (g : Ghosts D) (start : Store) (first_cost begun_cost : Cost) (mine : World D) (number : ℕ) (first left old new : Option (List ℕ)) (was : D) : Type 0 where
   pub world : model.World
   pub stands : WorldStands mine world
   pub lines : List PlayedLine
   pub store_is : world.store ≡ store_behind start lines
   pub grew : Grew old new
   pub took : IsTrue g.tells → Appends old new (text_of lines)
-  pub pages : IsTrue g.tells → PagesAre g mine.store.layout start lines was now
-  pub counts : IsTrue g.tells → Spent lines (g.calls was) (g.calls now)
-  pub plays_on : PlaysOn mine.store.layout start lines number world first left
+  pub pages : IsTrue g.tells → PagesAre g mine.vault.memory.layout start lines was mine.vault.disk
+  pub counts : Costs g first_cost (with_lines start lines begun_cost) was mine.vault.disk mine.vault.memory
+  pub plays_on : PlaysOn mine.vault.memory.layout start lines number world first left
+
+-- A run of this world begins over a store: memory is at it and the disk holds its contents, where it tells its pages, at this cost.
+pub record StartsOn {D : Type 0} (g : Ghosts D) (start : Store) (cost : Cost) (mine : World D) : Type 0 where
+  pub stands : WorldStands mine (model.world_over start)
+  pub held : IsTrue g.tells → AllHeld (g.story mine.vault.disk).reads mine.vault.memory.layout start.objects
+  pub gate : mine.vault.memory.log.gate ≡ cost.gate
+
+-- What is left of a known script ends as the whole does, whatever the store.
+abbrev pub EndsOn : ℕ → Option (List ℕ) → Option (List ℕ) → Type 0
+EndsOn number first left =
+    (script : List ℕ) → first ≡ Some script
+    → (rest : List ℕ) × (left ≡ Some rest)
+    × ((layout : Layout) (start : Store) (world : model.World) → (playing layout number world (lines_of rest)).end ≡ (play layout start script).end)
+
+-- A run on the way, whatever the disk tells.
+pub record GoingSo (number : ℕ) (first left old new : Option (List ℕ)) : Type 0 where
+  pub grew : Grew old new
+  pub ends_on : EndsOn number first left
 
 -- what ends the reading of a line, other than well
 abbrev pub EndsReading : Status → ℕ → Option (List ℕ) → ℕ → ℕ → Type 0

@@ -1,3 +1,5 @@
+pub mod Faults
+pub mod Looks
 pub mod Lines
 pub mod Sessions
 pub mod Steps

@@ -1,5 +1,5 @@
 -- What is found at the front of a script.
-use Rattle.std.specs.Prelude.{◌≡◌, ℕ, ⊤, List, Option, None}
+use Rattle.std.specs.Prelude.{◌≡◌, ℕ, ⊤, List, Option, Some, None}
 use Rattle.blob_script.specs.Words.{IsSession, model_step}
 use Rattle.blob_script.specs.declared.status.Status.{Status}
 use Rattle.blob_script.specs.declared.status.Status.TheVariants as status
@@ -7,10 +7,12 @@ use Rattle.blob_steps.specs.Going.{TakesLine}
 use Rattle.blob_steps.specs.Lines.{NoLine}
 use Rattle.blob_steps.specs.declared.run.Next.{Next}
 use Rattle.blob_steps.specs.declared.run.Next.TheVariants as next
+use Rattle.blob_steps.specs.declared.world.Played.{Played}
+use Rattle.blob_steps.specs.declared.world.Played.TheVariants as played
 use Rattle.store_model.specs.Layout.{Layout}
 use Rattle.store_model.specs.Play.{step_play}
 use Rattle.store_model.specs.Script.{Asks, Line, Malformed, Skipped, Step}
-use Rattle.store_model.specs.World.{World}
+use Rattle.store_model.specs.World.{Outcome, World}
 
 -- the line that was found; there is none at the end
 abbrev pub next_line : Next → Line
@@ -41,7 +43,17 @@ TellsLine number line (status.Malformed at) = (at ≡ number) × (line ≡ Malfo
 TellsLine number line status.OutOfMemory = ⊤
 TellsLine number line _ = ⊥
 
--- the verb of a step isn't built where the status says so, of the line of this number, and the disk is as it was
-abbrev pub IsUnbuilt : {D : Type 0} → Layout → World → Step → ℕ → D → D → Status → Type 0
+-- the verb of a step isn't built where the status says so, of the line of this number, and the vault is as it was
+abbrev pub IsUnbuilt : {V : Type 0} → Layout → World → Step → ℕ → V → V → Status → Type 0
 IsUnbuilt layout world step number old new (status.NotBuilt at) = (at ≡ number) × (step_play layout world step ≡ None) × (new ≡ old)
 IsUnbuilt layout world step number old new _ = ⊤
+
+-- where the status says that the verb of a step isn't built, it is in no store, and the line is of this number
+abbrev pub IsNeverBuilt : ℕ → Step → Status → Type 0
+IsNeverBuilt number step (status.NotBuilt at) = (at ≡ number) × ((layout : Layout) (world : World) → step_play layout world step ≡ None)
+IsNeverBuilt number step _ = ⊤
+
+-- what came of a step comes of it in each store: it has an outcome, or its verb isn't built
+abbrev pub IsAlways : Step → Played → Type 0
+IsAlways step played.Answered = (layout : Layout) (world : World) → (outcome : Outcome) × (step_play layout world step ≡ Some outcome)
+IsAlways step played.NotBuilt = (layout : Layout) (world : World) → step_play layout world step ≡ None

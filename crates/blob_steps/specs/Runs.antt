@@ -12,14 +12,15 @@ use Rattle.blob_script.specs.declared.status.Status.{Status}
 use Rattle.blob_script.specs.declared.status.Status.TheVariants as status
 use Rattle.blob_script.specs.Endings.{ending_of}
 use Rattle.store_model.specs.Closing.{closing_text}
-use Rattle.store_model.specs.Cost.{Spent}
-use Rattle.store_model.specs.Images.{Wrote}
+use Rattle.store_model.specs.Cost.{Cost, Spent, with_lines}
+use Rattle.store_model.specs.Images.{Settled, Wrote}
 use Rattle.store_model.specs.Key.{key_order}
 use Rattle.store_model.specs.Layout.{Layout}
-use Rattle.store_model.specs.Play.{AtInputEnd, AtMalformed, AtUnbuilt, Played, PlayedLine, play, store_behind, taken_in, text_of}
-use Rattle.store_model.specs.Space.{IsOwnedPage}
+use Rattle.store_model.specs.Play.{AtInputEnd, AtMalformed, AtUnbuilt, End, Played, PlayedLine, play, store_behind, taken_in, text_of}
 use Rattle.store_model.specs.Standing.{AllStand, IsDamaged}
 use Rattle.store_model.specs.Store.{Object, Store}
+use Rattle.store_model.specs.Survival.{ReadsAs}
+use Rattle.vault.specs.Leads.{IsLeadPage}
 
 -- how often each of the three ends has failed
 pub record Counts : Type 0 where
@@ -81,11 +82,17 @@ pub record Closed (status : Status) (frugal : Bool) (before now : ℕ) (old new 
   pub front : IsFront line (closing_text (ending_of status))
   pub whole : (line ≡ closing_text (ending_of status)) ⊎ Rose before now ⊎ (frugal ≡ false)
 
--- What lines that begin with this store made of a disk: each object of the store behind them stands in the data area, and no
--- page has changed but those that their committed transactions took, now or in a crash.
+-- What lines that begin with this store made of a disk: each object of the store behind them stands in the data area, with zeros behind it
+-- on its tail page where one of the lines wrote it; and no page of the data area has changed but those of the blocks that their committed
+-- transactions took, now or in a crash.
 pub record PagesAre {D : Type 0} (g : disk_trait.Ghosts D) (layout : Layout) (start : Store) (lines : List PlayedLine) (old new : D) : Type 0 where
-  pub objects : AllStand (g.story new).reads layout (store_behind start lines).objects
-  pub others : Wrote (IsOwnedPage layout (taken_in lines)) (g.story old) (g.story new)
+  pub objects : AllStand start.last (g.story new).reads layout (store_behind start lines).objects
+  pub others : Wrote (IsLeadPage layout (taken_in lines)) (g.story old) (g.story new)
+
+-- A disk reads as a store, with all its contents, and a crash leaves just that.
+pub record RestsAt {D : Type 0} (g : disk_trait.Ghosts D) (layout : Layout) (store : Store) (disk : D) : Type 0 where
+  pub reads : ReadsAs (g.size disk) (g.story disk).reads layout store.objects store.last
+  pub settled : Settled (g.story disk)
 
 -- what each of the three ends keeps
 pub record KeepsEnds {S K D : Type 0} (source : source_trait.Ghosts S) (sink : sink_trait.Ghosts K) (disk : disk_trait.Ghosts D)
@@ -98,14 +105,28 @@ pub record KeepsEnds {S K D : Type 0} (source : source_trait.Ghosts S) (sink : s
 abbrev pub counts_of : {S K D : Type 0} → source_trait.Ghosts S → sink_trait.Ghosts K → disk_trait.Ghosts D → S → K → D → Counts
 counts_of source sink disk from to on = record { source = source.faults from; sink = sink.faults to; disk = disk.faults on }
 
--- How the run of a script that began with this store ended, up to the closing line: which lines were run, and what came of them.
-pub record Ended {D : Type 0} (g : disk_trait.Ghosts D) (layout : Layout) (start : Store) (frugal : Bool) (script old new : Option (List ℕ)) (was now : D)
-    (status : Status) : Type 0 where
+-- How the run of a script that began with this store ended, up to the closing line: which lines were run, and what came of them. The disk
+-- had the cost `first` as it was, and `begun` where the first line began.
+pub record Ended {D : Type 0} (g : disk_trait.Ghosts D) (layout : Layout) (start : Store) (first begun : Cost) (frugal : Bool) (script old new : Option (List ℕ))
+    (was now : D) (status : Status) : Type 0 where
   pub lines : List PlayedLine
   pub ran : (text : List ℕ) → script ≡ Some text → Ran status lines (play layout start text)
   pub grew : Grew old new
   pub took : IsTrue g.tells → TookLines status frugal old new lines
   pub pages : IsTrue g.tells → OnPlayed status (PagesAre g layout start lines was now)
-  pub counts : IsTrue g.tells → OnPlayed status (Spent lines (g.calls was) (g.calls now))
+  pub rests : IsTrue g.tells → OnPlayed status (RestsAt g layout (store_behind start lines) now)
+  pub counts : IsTrue g.tells → OnPlayed status (Spent first (with_lines start lines begun) (g.calls was) (g.calls now))
   pub damage : ShowsDamage status (store_behind start lines).objects
   pub whole : IsTrue g.tells → IsUndamaged status
+
+-- the status with which a script's run ended is that of the end that its play has, where it is one of its own
+abbrev pub EndsAs : Status → End → Type 0
+EndsAs status.Done end = end ≡ AtInputEnd
+EndsAs (status.Malformed line) end = end ≡ AtMalformed line
+EndsAs (status.NotBuilt line) end = end ≡ AtUnbuilt line
+EndsAs _ end = ⊤
+
+-- How a run ended whatever the disk told: the sink took some text; and the script's end, which no store changes, is that of its play.
+pub record EndedSo (script old new : Option (List ℕ)) (status : Status) : Type 0 where
+  pub grew : Grew old new
+  pub ends : (layout : Layout) (start : Store) (text : List ℕ) → script ≡ Some text → EndsAs status (play layout start text).end

@@ -3,8 +3,9 @@ use Rattle.std.specs.Prelude.{◌≡◌, ℕ, ⊤, List, slice_get, Option, Some
 use Rattle.std.specs.List.{slice_set as set}
 use Rattle.std.specs.FinMap.{get}
 use Rattle.blob_script.specs.Answers.{model_line}
-use Rattle.blob_store.specs.declared.look.Look.{Look}
-use Rattle.blob_store.specs.declared.look.Look.TheVariants as look
+use Rattle.blob_steps.specs.Looks.{show_of}
+use Rattle.blob_steps.specs.declared.look.Look.{Look}
+use Rattle.blob_steps.specs.declared.look.Look.TheVariants as look
 use Rattle.blob_steps.specs.declared.session.Looked.{Looked}
 use Rattle.blob_steps.specs.declared.session.Looked.TheVariants as looked
 use Rattle.blob_steps.specs.declared.session.Session.{Session}
@@ -18,9 +19,8 @@ use Rattle.store_model.specs.Turn.{session_after, turn}
 use Rattle.store_model.specs.World.{transaction_of}
 use Rattle.txn.specs.Requests.{transaction_of as requested}
 use Rattle.txn.specs.Txns.{NoAppends, own_bytes, transaction_by}
-use Rattle.blob_store.specs.Looks.{show_of}
-use Rattle.blob_store.specs.Stores.{StoreStands}
-use Rattle.blob_store.specs.declared.store.Store.{Store as Mine}
+use Rattle.vault.specs.Leads.{StoreStands}
+use Rattle.vault.specs.declared.memory.Memory.{Memory}
 use Rattle.txn.specs.declared.refusal.TxnRefusal.{TxnRefusal}
 use Rattle.txn.specs.declared.refusal.TxnRefusal.TheVariants as refusal
 use Rattle.txn.specs.declared.request.Request.{Request}
@@ -83,21 +83,28 @@ pub record IsSet (old new : List Session) (number : ℕ) (was later : Session) :
   pub there : slice_get old number ≡ Some was
   pub new_is : new ≡ set old number later
 
+-- A session of the program is where an action leads, over some store.
+abbrev pub TurnsSomehow : Session → ℕ → model.Action → Session → Type 0
+TurnsSomehow was number action later =
+    (theirs : model.Session) → SessionStands was number theirs → (over : Store) × SessionStands later number (session_after theirs action (turn over theirs action))
+
 -- A session of the program took its turn over the program's store, which answered this line.
-pub record HasTurned (store : Mine) (old new : List Session) (number : ℕ) (action : model.Action) (line : answer.AnswerLine) : Type 0 where
+pub record HasTurned (mine : Memory) (old new : List Session) (number : ℕ) (action : model.Action) (line : answer.AnswerLine) : Type 0 where
   pub was : Session
   pub later : Session
   pub set_is : IsSet old new number was later
-  pub turns : (theirs : model.Session) (over : Store) → StoreStands store over → SessionStands was number theirs → TurnsTo over theirs action number later line
+  pub turns : (theirs : model.Session) (over : Store) → StoreStands mine over → SessionStands was number theirs → TurnsTo over theirs action number later line
+  pub some : TurnsSomehow was number action later
   pub begun : later.begun ≡ was.begun
   pub waits : was.stage ≡ stage.Waiting → later.stage ≡ stage.Waiting
 
 -- A session of the program looked at a key over the program's store, and found this.
-pub record HasLooked (store : Mine) (old new : List Session) (number : ℕ) (key : List ℕ) (found : Looked) : Type 0 where
+pub record HasLooked (mine : Memory) (old new : List Session) (number : ℕ) (key : List ℕ) (found : Looked) : Type 0 where
   pub was : Session
   pub later : Session
   pub set_is : IsSet old new number was later
-  pub looks : (one : Look) (theirs : model.Session) (over : Store) → StoreStands store over → SessionStands was number theirs → LooksTo one over theirs key number later found
+  pub looks : (one : Look) (theirs : model.Session) (over : Store) → StoreStands mine over → SessionStands was number theirs → LooksTo one over theirs key number later found
+  pub some : (one : Look) → TurnsSomehow was number (look_action one key) later
   pub begun : later.begun ≡ was.begun
   pub waits : was.stage ≡ stage.Waiting → later.stage ≡ stage.Waiting
 

@@ -7,7 +7,7 @@ ghost use Rattle.blob_steps.specs.Forms.{Did, IsReportedBy, LeftAlone, Run as Wh
 ghost use Rattle.blob_steps.specs.Runs.{Closed, IsRaised, KeepsEnds, counts_of};
 ghost use Rattle.store_model.specs.Form.{IsForm};
 
-use crate::run::fresh;
+use crate::run::{fresh, steps};
 use blob_base::Word;
 use blob_report::{print, run_check, run_format, run_show};
 use blob_script::{Form, Status};
@@ -23,6 +23,7 @@ pub fn layout_of(form: Form) -> Option<Layout>
     match form {
         Form::Format { units, room } => Some(Layout { units, room }),
         Form::Fresh { units, room } => Some(Layout { units, room }),
+        Form::Steps => None,
         Form::Show => None,
         Form::Check => None,
     }
@@ -34,22 +35,26 @@ fn run_form<S: Source, K: Sink, D: Disk>(
     form: Form,
     source: &mut S,
     sink: &mut K,
-    disk: &mut D,
-) -> Status
+    mut disk: D,
+) -> (Status, D)
     requires { (words : List (List ℕ)) × IsForm words (model_form form) }
-    ensures did { Did S.Source K.Sink D.Disk (model_form form) source.old sink.old disk.old result source.new sink.new disk.new }
-    ensures form { result ≡ Status.Usage → ⊥ }
-    ensures raised { IsRaised result
-        (counts_of S.Source K.Sink D.Disk source.old sink.old disk.old)
-        (counts_of S.Source K.Sink D.Disk source.new sink.new disk.new) }
-    ensures keeps { KeepsEnds S.Source K.Sink D.Disk source.old sink.old disk.old source.new sink.new disk.new }
+    ensures did { Did S.Source K.Sink D.Disk (model_form form) source.old sink.old disk result.0 source.new sink.new result.1 }
+    ensures form { result.0 ≡ Status.Usage → ⊥ }
+    ensures raised { IsRaised result.0
+        (counts_of S.Source K.Sink D.Disk source.old sink.old disk)
+        (counts_of S.Source K.Sink D.Disk source.new sink.new result.1) }
+    ensures keeps { KeepsEnds S.Source K.Sink D.Disk source.old sink.old disk source.new sink.new result.1 }
 {
-    match form {
-        Form::Format { units, room } => run_format(Layout { units, room }, sink, disk),
-        Form::Fresh { units, room } => fresh(alloc, Layout { units, room }, source, sink, disk),
-        Form::Show => run_show(alloc, sink, disk),
-        Form::Check => run_check(alloc, sink, disk),
-    }
+    let status = match form {
+        Form::Fresh { units, room } => {
+            return fresh(alloc, Layout { units, room }, source, sink, disk);
+        }
+        Form::Steps => return steps(alloc, source, sink, disk),
+        Form::Format { units, room } => run_format(Layout { units, room }, sink, &mut disk),
+        Form::Show => run_show(alloc, sink, &mut disk),
+        Form::Check => run_check(alloc, sink, &mut disk),
+    };
+    (status, disk)
 }
 
 // Runs the form that the words are, where they are one, up to the closing line.
@@ -58,21 +63,21 @@ fn run_words<S: Source, K: Sink, D: Disk>(
     form: Option<Form>,
     source: &mut S,
     sink: &mut K,
-    disk: &mut D,
-) -> Status
+    disk: D,
+) -> (Status, D)
     requires { IfSome form (λ form. (words : List (List ℕ)) × IsForm words (model_form form)) }
-    ensures usage { (result ≡ Status.Usage) ↔ (form ≡ None) }
-    ensures alone { form ≡ None → LeftAlone source.old sink.old disk.old source.new sink.new disk.new }
+    ensures usage { (result.0 ≡ Status.Usage) ↔ (form ≡ None) }
+    ensures alone { form ≡ None → LeftAlone source.old sink.old disk source.new sink.new result.1 }
     ensures did { IfSome form (λ form.
-        Did S.Source K.Sink D.Disk (model_form form) source.old sink.old disk.old result source.new sink.new disk.new) }
-    ensures raised { IsRaised result
-        (counts_of S.Source K.Sink D.Disk source.old sink.old disk.old)
-        (counts_of S.Source K.Sink D.Disk source.new sink.new disk.new) }
-    ensures keeps { KeepsEnds S.Source K.Sink D.Disk source.old sink.old disk.old source.new sink.new disk.new }
+        Did S.Source K.Sink D.Disk (model_form form) source.old sink.old disk result.0 source.new sink.new result.1) }
+    ensures raised { IsRaised result.0
+        (counts_of S.Source K.Sink D.Disk source.old sink.old disk)
+        (counts_of S.Source K.Sink D.Disk source.new sink.new result.1) }
+    ensures keeps { KeepsEnds S.Source K.Sink D.Disk source.old sink.old disk source.new sink.new result.1 }
 {
     match form {
         Some(form) => run_form(alloc, form, source, sink, disk),
-        None => Status::Usage,
+        None => (Status::Usage, disk),
     }
 }
 
@@ -103,9 +108,10 @@ fn close<K: Sink>(sink: &mut K, form: Option<Form>, status: &Status)
 /// It answers how the run ended, and the disk.
 ///
 /// The forms of words are `format FILE UNITS ROOM`, which formats a store of UNITS times 1024 data pages and ROOM pages for
-/// the states of a half; `fresh FILE UNITS ROOM`, which answers a script line by line over an empty store of that size, of
-/// which the disk has the contents alone as yet; `show FILE`, which opens a store and prints its states; and `check FILE`,
-/// which opens it, verifies each state and prints which are damaged. FILE isn't looked at: the caller has opened the disk.
+/// the states of a half; `fresh FILE UNITS ROOM`, which formats one and answers a script over it line by line; `steps FILE`,
+/// which opens the store that the disk has and answers a script over that; `show FILE`, which opens a store and prints its
+/// states; and `check FILE`, which opens it, verifies each state and prints which are damaged. FILE isn't looked at: the
+/// caller has opened the disk.
 /// After a status other than `Done` one closing line is written where the sink takes it, but for a check that found damage,
 /// whose report stands instead.
 pub fn run_alone<S: Source, K: Sink, D: Disk>(
@@ -113,12 +119,12 @@ pub fn run_alone<S: Source, K: Sink, D: Disk>(
     words: &[Word],
     source: &mut S,
     sink: &mut K,
-    mut disk: D,
+    disk: D,
 ) -> (Status, D)
     ensures { WholeRun S.Source K.Sink D.Disk words.now source.old sink.old disk result.0 source.new sink.new result.1 }
 {
     let form = Form::read(words);
-    let status = run_words(alloc, form, source, sink, &mut disk);
+    let (status, disk) = run_words(alloc, form, source, sink, disk);
     close(sink, form, &status);
     (status, disk)
 }

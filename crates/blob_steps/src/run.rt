@@ -1,39 +1,44 @@
-// The run of a script over a source, a sink and a disk.
+// The run of a script over a source, a sink and the store of a disk.
 
-ghost use Rattle.std.specs.Prelude.{◌≡◌, ◌≢◌, ◌⊎◌, ◌↔◌, ◌<◌, ◌≤◌, ◌++◌, ◌+◌, ◌^◌, ℕ, [], List, Option, Some, None, Ok, Err, take, length, OnOk, OnErr, IfOk, IfErr, IfSome, MatchBool, MatchOption, MatchResult, IsTrue, true, false};
-ghost use Rattle.std.specs.Io.KnownBytes.{prepend_known, Appends};
+ghost use Rattle.std.specs.Prelude.{◌≡◌, ◌<◌, ◌≤◌, ◌+◌, ◌^◌, ℕ, [], List, Option, None, OnOk, IfOk, IfErr, MatchBool, MatchResult, IsTrue, true};
+ghost use Rattle.std.specs.Io.KnownBytes.{prepend_known};
 ghost use Rattle.blob_base.specs.Faults.{KeepsEnd};
 ghost use Rattle.blob_base.specs.declared.faults.StoreRefusal.TheVariants.{TooSmall};
 ghost use Rattle.disk_model.specs.Disks.{Keeps};
-ghost use Rattle.store_model.specs.Layout.{total_pages};
+ghost use Rattle.store_model.specs.Cost.{Cost};
 ghost use Rattle.store_model.specs.Script.{line_at};
 ghost use Rattle.store_model.specs.World.{World as ModelWorld, world_over};
-ghost use Rattle.store_model.specs.Standing.{AllStand};
-ghost use Rattle.store_model.specs.Store.{Store as ModelStore, empty_store};
+ghost use Rattle.store_model.specs.Standing.{AllHeld};
+ghost use Rattle.store_model.specs.Store.{Store as ModelStore};
 ghost use Rattle.blob_script.specs.Words.{IsSession, model_step};
+ghost use Rattle.blob_steps.specs.Forms.{DidFresh, DidSteps, IsDamageOfState};
 ghost use Rattle.blob_steps.specs.Steps.{DoesPlay, HaveBegun, IsWorld, WorldStands};
-ghost use Rattle.blob_steps.specs.Runs.{Ended, IsRaised, IsUndamaged, KeepsEnds, ShowsDamage, counts_of};
-ghost use Rattle.blob_steps.specs.Going.{EndsReading, EndsStep, Going, IsAccepted, IsRunning, reading_ending, step_ending};
-ghost use Rattle.blob_steps.specs.Nexts.{HasSession, IsLine, IsNext, IsUnbuilt, TellsLine, next_line};
+ghost use Rattle.blob_steps.specs.Runs.{Ended, EndedSo, IsRaised, IsUndamaged, KeepsEnds, ShowsDamage, counts_of};
+ghost use Rattle.blob_steps.specs.Going.{EndsReading, EndsStep, Going, GoingSo, IsAccepted, IsRunning, StartsOn, reading_ending, step_ending};
+ghost use Rattle.blob_steps.specs.Nexts.{HasSession, IsAlways, IsLine, IsNeverBuilt, IsNext, IsUnbuilt, TellsLine, next_line};
+ghost use Rattle.vault.specs.Leads.{StoreStands};
+ghost use Rattle.vault.specs.Vaults.{IsVault};
 
+use crate::fault::StoreFault;
 use crate::line::{Found, LineFault, LineReader};
-use crate::world::{Played, World};
-use blob_base::{Bytes, IoFault, OutOfMemory, StoreRefusal};
-use blob_report::print;
+use crate::world::{Played, World, new_sessions};
+use blob_base::{Bytes, IoFault};
+use blob_report::{opening_status, print};
 use blob_script::{Status, Step, StepFault};
-use blob_store::StoreFault;
 use disk_model::{Disk, Layout};
 use io_ends::{Sink, Source};
+use recover::format;
 use std::alloc::Global;
+use vault::Vault;
 
 // How many lines a script may have.
 const MAX_LINES: u64 = 1_000_000;
 
 // A run on the way.
 #[derive(Drop)]
-struct Run {
+struct Run<D> {
     reader: LineReader,
-    world: World,
+    world: World<D>,
     line: Bytes,
     text: Bytes,
 }
@@ -46,20 +51,17 @@ enum Next {
     End,
 }
 
-impl Run {
-    fn new(alloc: Global, layout: Layout) -> Result<Run, OutOfMemory>
-        ensures reader { IfOk result (λ run. run.reader ≡ []) }
-        ensures sound { IfOk result (λ run. IsWorld run.world) }
-        ensures layout { IfOk result (λ run. run.world.store.layout ≡ layout) }
-        ensures begun { IfOk result (λ run. HaveBegun 0 run.world) }
-        ensures stands { IfOk result (λ run. WorldStands run.world (world_over empty_store)) }
+impl<D: Disk> Run<D> {
+    fn over(alloc: Global, world: World<D>) -> Run<D>
+        ensures reader { result.reader ≡ [] }
+        ensures world { result.world ≡ world }
     {
-        Ok(Run {
+        Run {
             reader: LineReader::new(),
-            world: World::new(alloc, layout)?,
+            world,
             line: Bytes::new(alloc),
             text: Bytes::new(alloc),
-        })
+        }
     }
 
     // Takes the line of this number off the script.
@@ -86,36 +88,32 @@ impl Run {
     }
 
     // Does the step that the line of this number asks for, and makes its answer the text.
-    fn do_step<D: Disk>(
-        &mut self,
-        alloc: Global,
-        disk: &mut D,
-        number: u64,
-        step: Step,
-    ) -> Result<(), Status>
-        requires sound { IsWorld self.old.world }
+    fn do_step(&mut self, alloc: Global, number: u64, step: Step) -> Result<(), Status>
+        requires sound { IsWorld D.Disk self.old.world }
         requires begun { HaveBegun (2 ^ 61) self.old.world }
         requires session { IsSession step }
-        requires disk { total_pages self.old.world.store.layout ≤ D.size disk.old }
         ensures step { (world : ModelWorld) → WorldStands self.old.world world
-            → OnOk result (DoesPlay D.Disk world (model_step step) self.new.text self.old.world self.new.world disk.old disk.new
-            Played.Answered) }
+            → OnOk result (DoesPlay D.Disk world (model_step step) self.new.text self.old.world self.new.world Played.Answered) }
         ensures unbuilt { (world : ModelWorld) → WorldStands self.old.world world
-            → IfErr result (IsUnbuilt self.old.world.store.layout world (model_step step) number disk.old disk.new) }
+            → IfErr result (IsUnbuilt self.old.world.vault.memory.layout world (model_step step) number self.old.world.vault self.new.world.vault) }
+        ensures always { OnOk result (IsAlways (model_step step) Played.Answered) }
+        ensures never { IfErr result (IsNeverBuilt number (model_step step)) }
         ensures damage { (world : ModelWorld) → WorldStands self.old.world world
             → IfErr result (λ status. ShowsDamage status world.store.objects) }
+        ensures among { IfErr result IsDamageOfState }
         ensures whole { IsTrue D.tells → (world : ModelWorld) → WorldStands self.old.world world
-            → AllStand (D.story disk.old).reads self.old.world.store.layout world.store.objects
+            → AllHeld (D.story self.old.world.vault.disk).reads self.old.world.vault.memory.layout world.store.objects
             → IfErr result IsUndamaged }
-        ensures sound { OnOk result (IsWorld self.new.world) }
+        ensures sound { OnOk result (IsWorld D.Disk self.new.world) }
+        ensures vault { IsVault D.Disk self.new.world.vault.disk self.new.world.vault.memory self.new.world.vault.shut }
         ensures begun { (n : ℕ) → HaveBegun n self.old.world → OnOk result (HaveBegun (n + 1) self.new.world) }
         ensures reader { self.new.reader ≡ self.old.reader }
-        ensures layout { self.new.world.store.layout ≡ self.old.world.store.layout }
-        ensures keeps { Keeps D.Disk disk.old disk.new }
-        ensures ends { IfErr result (λ status. EndsStep status (D.faults disk.old) (D.faults disk.new)) }
+        ensures layout { self.new.world.vault.memory.layout ≡ self.old.world.vault.memory.layout }
+        ensures keeps { Keeps D.Disk self.old.world.vault.disk self.new.world.vault.disk }
+        ensures ends { IfErr result (λ status. EndsStep status (D.faults self.old.world.vault.disk) (D.faults self.new.world.vault.disk)) }
     {
         self.text.clear();
-        match self.world.step(alloc, disk, step, &mut self.text) {
+        match self.world.step(alloc, step, &mut self.text) {
             Ok(Played::Answered) => Ok(()),
             Ok(Played::NotBuilt) => Err(Status::NotBuilt { line: number }),
             Err(fault) => Err(step_status(fault)),
@@ -123,45 +121,92 @@ impl Run {
     }
 
     // Reads the line of this number and answers it. `false` at the end of the script.
-    fn answer_line<S: Source, K: Sink, D: Disk>(
+    fn answer_line<S: Source, K: Sink>(
         &mut self,
         alloc: Global,
         number: u64,
         source: &mut S,
         sink: &mut K,
-        disk: &mut D,
     ) -> Result<bool, Status>
-        requires sound { IsWorld self.old.world }
+        requires sound { IsWorld D.Disk self.old.world }
         requires begun { HaveBegun (2 ^ 61) self.old.world }
-        requires disk { total_pages self.old.world.store.layout ≤ D.size disk.old }
-        ensures going { (start : ModelStore) (first old : Option (List ℕ)) (was : _)
-            → Going D.Disk start self.old.world number first (prepend_known self.old.reader (S.left source.old)) old
-            (K.taken sink.old) was disk.old
+        ensures going { (start : ModelStore) (before begun : Cost) (first old : Option (List ℕ)) (was : _)
+            → Going D.Disk start before begun self.old.world number first (prepend_known self.old.reader (S.left source.old)) old
+            (K.taken sink.old) was
             → MatchResult result
             (λ more. MatchBool more
-            (Going D.Disk start self.new.world (number + 1) first (prepend_known self.new.reader (S.left source.new)) old
-            (K.taken sink.new) was disk.new)
-            (Ended D.Disk self.old.world.store.layout start (K.frugal sink.old) first old (K.taken sink.new) was disk.new Status.Done))
-            (λ status. Ended D.Disk self.old.world.store.layout start (K.frugal sink.old) first old (K.taken sink.new) was disk.new status) }
+            (Going D.Disk start before begun self.new.world (number + 1) first (prepend_known self.new.reader (S.left source.new)) old
+            (K.taken sink.new) was)
+            (Ended D.Disk self.old.world.vault.memory.layout start before begun (K.frugal sink.old) first old (K.taken sink.new) was
+            self.new.world.vault.disk Status.Done))
+            (λ status. Ended D.Disk self.old.world.vault.memory.layout start before begun (K.frugal sink.old) first old (K.taken sink.new) was
+            self.new.world.vault.disk status) }
+        ensures so { (first old : Option (List ℕ))
+            → GoingSo number first (prepend_known self.old.reader (S.left source.old)) old (K.taken sink.old)
+            → MatchResult result
+            (λ more. MatchBool more
+            (GoingSo (number + 1) first (prepend_known self.new.reader (S.left source.new)) old (K.taken sink.new))
+            (EndedSo first old (K.taken sink.new) Status.Done))
+            (λ status. EndedSo first old (K.taken sink.new) status) }
         ensures few { result ≡ Ok true → number ≤ MAX_LINES }
-        ensures sound { OnOk result (IsWorld self.new.world) }
+        ensures sound { OnOk result (IsWorld D.Disk self.new.world) }
+        ensures vault { IsVault D.Disk self.new.world.vault.disk self.new.world.vault.memory self.new.world.vault.shut }
         ensures begun { (n : ℕ) → HaveBegun n self.old.world → OnOk result (HaveBegun (n + 1) self.new.world) }
-        ensures layout { self.new.world.store.layout ≡ self.old.world.store.layout }
+        ensures layout { self.new.world.vault.memory.layout ≡ self.old.world.vault.memory.layout }
         ensures own { IfErr result IsRunning }
+        ensures among { IfErr result IsDamageOfState }
         ensures raised { IfErr result (λ status. IsRaised status
-            (counts_of S.Source K.Sink D.Disk source.old sink.old disk.old)
-            (counts_of S.Source K.Sink D.Disk source.new sink.new disk.new)) }
-        ensures keeps { KeepsEnds S.Source K.Sink D.Disk source.old sink.old disk.old source.new sink.new disk.new }
+            (counts_of S.Source K.Sink D.Disk source.old sink.old self.old.world.vault.disk)
+            (counts_of S.Source K.Sink D.Disk source.new sink.new self.new.world.vault.disk)) }
+        ensures keeps { KeepsEnds S.Source K.Sink D.Disk source.old sink.old self.old.world.vault.disk
+            source.new sink.new self.new.world.vault.disk }
     {
         match self.next(alloc, number, source)? {
             Next::Step { step } => {
-                self.do_step(alloc, disk, number, step)?;
+                self.do_step(alloc, number, step)?;
                 print(sink, self.text.as_slice())?;
                 Ok(true)
             }
             Next::Skipped => Ok(true),
             Next::End => Ok(false),
         }
+    }
+
+    // Reads and answers each line, up to the script's end.
+    fn answer_all<S: Source, K: Sink>(
+        &mut self,
+        alloc: Global,
+        source: &mut S,
+        sink: &mut K,
+    ) -> Result<(), Status>
+        requires sound { IsWorld D.Disk self.old.world }
+        requires begun { HaveBegun 0 self.old.world }
+        requires none { self.old.reader ≡ [] }
+        ensures ended { (start : ModelStore) (cost : Cost) → StartsOn D.Disk start cost self.old.world
+            → MatchResult result
+            (λ _. Ended D.Disk self.old.world.vault.memory.layout start cost cost (K.frugal sink.old) (S.left source.old)
+            (K.taken sink.old) (K.taken sink.new) self.old.world.vault.disk self.new.world.vault.disk Status.Done)
+            (λ status. Ended D.Disk self.old.world.vault.memory.layout start cost cost (K.frugal sink.old) (S.left source.old)
+            (K.taken sink.old) (K.taken sink.new) self.old.world.vault.disk self.new.world.vault.disk status) }
+        ensures so { MatchResult result
+            (λ _. EndedSo (S.left source.old) (K.taken sink.old) (K.taken sink.new) Status.Done)
+            (λ status. EndedSo (S.left source.old) (K.taken sink.old) (K.taken sink.new) status) }
+        ensures vault { IsVault D.Disk self.new.world.vault.disk self.new.world.vault.memory self.new.world.vault.shut }
+        ensures own { IfErr result IsRunning }
+        ensures among { IfErr result IsDamageOfState }
+        ensures raised { IfErr result (λ status. IsRaised status
+            (counts_of S.Source K.Sink D.Disk source.old sink.old self.old.world.vault.disk)
+            (counts_of S.Source K.Sink D.Disk source.new sink.new self.new.world.vault.disk)) }
+        ensures keeps { KeepsEnds S.Source K.Sink D.Disk source.old sink.old self.old.world.vault.disk
+            source.new sink.new self.new.world.vault.disk }
+    {
+        for number in 1..MAX_LINES + 2 {
+            if !self.answer_line(alloc, number, source, sink)? {
+                return Ok(());
+            }
+        }
+        // The line behind the last that a script may have is malformed.
+        unreachable!()
     }
 }
 
@@ -220,68 +265,83 @@ fn step_status(fault: StoreFault) -> Status
     }
 }
 
-// Runs a script over an empty store of this layout, up to its end.
-fn run_script<S: Source, K: Sink, D: Disk>(
-    alloc: Global,
-    layout: Layout,
-    source: &mut S,
-    sink: &mut K,
-    disk: &mut D,
-) -> Result<(), Status>
-    requires { total_pages layout ≤ D.size disk.old }
-    ensures ended { MatchResult result
-        (λ _. Ended D.Disk layout empty_store (K.frugal sink.old) (S.left source.old) (K.taken sink.old) (K.taken sink.new) disk.old disk.new Status.Done)
-        (λ status. Ended D.Disk layout empty_store (K.frugal sink.old) (S.left source.old) (K.taken sink.old) (K.taken sink.new) disk.old disk.new status) }
-    ensures own { IfErr result IsRunning }
-    ensures raised { IfErr result (λ status. IsRaised status
-        (counts_of S.Source K.Sink D.Disk source.old sink.old disk.old)
-        (counts_of S.Source K.Sink D.Disk source.new sink.new disk.new)) }
-    ensures keeps { KeepsEnds S.Source K.Sink D.Disk source.old sink.old disk.old source.new sink.new disk.new }
+// The status of a script's run that ended.
+fn ended_status(ended: Result<(), Status>) -> Status
+    ensures { MatchResult ended (λ _. result ≡ Status.Done) (λ status. result ≡ status) }
 {
-    let Ok(mut run) = Run::new(alloc, layout) else {
-        return Err(Status::OutOfMemory);
-    };
-    for number in 1..MAX_LINES + 2 {
-        if !run.answer_line(alloc, number, source, sink, disk)? {
-            return Ok(());
-        }
+    match ended {
+        Ok(()) => Status::Done,
+        Err(status) => status,
     }
-    // The line behind the last that a script may have is malformed.
-    unreachable!()
 }
 
-/// Runs a script over an empty store of this layout, where the disk is large enough.
+// Runs a script over a vault, up to its end, and closes the vault.
+fn run_script<S: Source, K: Sink, D: Disk>(
+    alloc: Global,
+    vault: Vault<D>,
+    source: &mut S,
+    sink: &mut K,
+) -> (Status, D)
+    requires vault { IsVault D.Disk vault.disk vault.memory vault.shut }
+    requires open { vault.shut ≡ None }
+    ensures ended { (start : ModelStore) (cost : Cost) → StoreStands vault.memory start → cost.gate ≡ vault.memory.log.gate
+        → (IsTrue D.tells → AllHeld (D.story vault.disk).reads vault.memory.layout start.objects)
+        → Ended D.Disk vault.memory.layout start cost cost (K.frugal sink.old) (S.left source.old) (K.taken sink.old) (K.taken sink.new)
+        vault.disk result.1 result.0 }
+    ensures so { EndedSo (S.left source.old) (K.taken sink.old) (K.taken sink.new) result.0 }
+    ensures own { IsAccepted result.0 }
+    ensures among { IsDamageOfState result.0 }
+    ensures raised { IsRaised result.0
+        (counts_of S.Source K.Sink D.Disk source.old sink.old vault.disk)
+        (counts_of S.Source K.Sink D.Disk source.new sink.new result.1) }
+    ensures keeps { KeepsEnds S.Source K.Sink D.Disk source.old sink.old vault.disk source.new sink.new result.1 }
+{
+    let Ok(sessions) = new_sessions(alloc) else {
+        return (Status::OutOfMemory, vault.close());
+    };
+    let world = World::over(alloc, vault, sessions);
+    let mut run = Run::over(alloc, world);
+    let status = ended_status(run.answer_all(alloc, source, sink));
+    (status, run.world.vault.close())
+}
+
+/// Opens the store of a disk, and runs a script over it.
+pub(crate) fn steps<S: Source, K: Sink, D: Disk>(
+    alloc: Global,
+    source: &mut S,
+    sink: &mut K,
+    disk: D,
+) -> (Status, D)
+    ensures did { (cost : Cost) → DidSteps S.Source K.Sink D.Disk cost source.old sink.old disk result.0 source.new sink.new result.1 }
+    ensures form { result.0 ≡ Status.Usage → ⊥ }
+    ensures raised { IsRaised result.0
+        (counts_of S.Source K.Sink D.Disk source.old sink.old disk)
+        (counts_of S.Source K.Sink D.Disk source.new sink.new result.1) }
+    ensures keeps { KeepsEnds S.Source K.Sink D.Disk source.old sink.old disk source.new sink.new result.1 }
+{
+    match Vault::open(alloc, disk) {
+        Ok(vault) => run_script(alloc, vault, source, sink),
+        Err(failed) => (opening_status(failed.fault), failed.disk),
+    }
+}
+
+/// Formats a disk as a store of this layout, opens it, and runs a script over it.
 pub(crate) fn fresh<S: Source, K: Sink, D: Disk>(
     alloc: Global,
     layout: Layout,
     source: &mut S,
     sink: &mut K,
-    disk: &mut D,
-) -> Status
-    ensures refused { D.size disk.old < total_pages layout
-        → result ≡ Status.Refused (TooSmall (total_pages layout) (D.size disk.old)) }
-    ensures accepted { total_pages layout ≤ D.size disk.old → IsAccepted result }
-    ensures alone { D.size disk.old < total_pages layout
-        → (source.new ≡ source.old) × (sink.new ≡ sink.old) × (disk.new ≡ disk.old) }
-    ensures ended { total_pages layout ≤ D.size disk.old → Ended D.Disk layout empty_store (K.frugal sink.old) (S.left source.old)
-        (K.taken sink.old) (K.taken sink.new) disk.old disk.new result }
-    ensures raised { IsRaised result
-        (counts_of S.Source K.Sink D.Disk source.old sink.old disk.old)
-        (counts_of S.Source K.Sink D.Disk source.new sink.new disk.new) }
-    ensures keeps { KeepsEnds S.Source K.Sink D.Disk source.old sink.old disk.old source.new sink.new disk.new }
+    mut disk: D,
+) -> (Status, D)
+    ensures did { DidFresh S.Source K.Sink D.Disk layout source.old sink.old disk result.0 source.new sink.new result.1 }
+    ensures form { result.0 ≡ Status.Usage → ⊥ }
+    ensures raised { IsRaised result.0
+        (counts_of S.Source K.Sink D.Disk source.old sink.old disk)
+        (counts_of S.Source K.Sink D.Disk source.new sink.new result.1) }
+    ensures keeps { KeepsEnds S.Source K.Sink D.Disk source.old sink.old disk source.new sink.new result.1 }
 {
-    let need = layout.total();
-    let have = disk.pages();
-    if have < need {
-        return Status::Refused {
-            why: StoreRefusal::TooSmall {
-                need: u64::from(need),
-                have: u64::from(have),
-            },
-        };
-    }
-    match run_script(alloc, layout, source, sink, disk) {
-        Ok(()) => Status::Done,
-        Err(status) => status,
+    match format(&mut disk, layout) {
+        Ok(()) => steps(alloc, source, sink, disk),
+        Err(fault) => (opening_status(fault), disk),
     }
 }

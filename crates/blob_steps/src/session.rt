@@ -11,7 +11,7 @@ ghost use Rattle.store_model.specs.Transaction.{Transaction};
 ghost use Rattle.txn.specs.Txns.{own_bytes, print_by, transaction_by};
 ghost use Rattle.txn.specs.declared.refusal.TxnRefusal.TheVariants as refusal;
 ghost use Rattle.store_model.specs.Turn.{Session as ModelSession};
-ghost use Rattle.blob_store.specs.declared.look.Look.{Look};
+ghost use Rattle.blob_steps.specs.declared.look.Look.{Look};
 ghost use Rattle.blob_steps.specs.Sessions.{Asks, IsNotOpen, LooksTo, SessionStands, TurnsTo, refused_line};
 
 use blob_base::{Key, OutOfMemory};

@@ -1,41 +1,46 @@
-// The world of a run: its store, its sessions and their queue.
+// The world of a run: its vault, its sessions and their queue.
 
 ghost use Rattle.std.specs.Prelude.{◌≡◌, ℕ, ◌+◌, ◌<◌, ◌≤◌, ◌^◌, ◌++◌, [], ◌∷◌, List, length, map, drop, None, IfOk, OnOk, slice_get, Some};
-ghost use Rattle.std.specs.List.{flat_map};
+ghost use Rattle.std.specs.List.{All};
 ghost use Rattle.blob_script.specs.Answers.{model_line};
 ghost use Rattle.blob_script.specs.Contents.{content_bytes};
 ghost use Rattle.blob_script.specs.Words.{IsSession, model_action, model_step};
 ghost use Rattle.group_plan.specs.Plans.{model_reply};
 ghost use Rattle.store_model.specs.Answer.{Session as SessionAnswer, answer_text};
 ghost use Rattle.store_model.specs.Group.{Member, reply_of};
-ghost use Rattle.store_model.specs.Layout.{total_pages};
 ghost use Rattle.store_model.specs.Play.{transact};
 ghost use Rattle.store_model.specs.Script as script;
-ghost use Rattle.store_model.specs.Store.{empty_store};
+ghost use Rattle.store_model.specs.Store.{Store as ModelStore};
 ghost use Rattle.store_model.specs.Turn as turn;
-ghost use Rattle.store_model.specs.World.{World as ModelWorld, lead, reply_line, transaction_of, world_over};
+ghost use Rattle.store_model.specs.World.{World as ModelWorld, checkpointed, lead, reply_line, transaction_of, world_over};
 ghost use Rattle.std.specs.FinMap as map;
 ghost use Rattle.txn.specs.Txns.{own_bytes};
-ghost use Rattle.blob_store.specs.Looks.{show_of};
+ghost use Rattle.blob_steps.specs.Looks.{show_of};
 ghost use Rattle.blob_steps.specs.declared.session.Looked.TheVariants as Looked;
+ghost use Rattle.blob_steps.specs.Nexts.{IsAlways};
 ghost use Rattle.blob_steps.specs.Sessions.{HasLooked, HasTurned, IsPut, look_action};
-ghost use Rattle.blob_steps.specs.Steps.{AreNew, CameTo, DoesPlay, HaveBegun, IsWorld, LeavesFirst, Replying, Stepped, TakesTurn, WorldStands, first_reply_text, replies_text};
+ghost use Rattle.blob_steps.specs.Steps.{AreNew, CameTo, DoesPlay, HaveBegun, IsWorld, LeavesFree, Replying, Stepped, TakesTurn, WorldStands, replies_text};
+ghost use Rattle.vault.specs.Leads.{StoreStands};
+ghost use Rattle.vault.specs.Vaults.{IsVault};
 
+use crate::fault::StoreFault;
+use crate::look::Look;
 use crate::session::{Looked, Session, Stage};
-use blob_base::{Bytes, Key, OutOfMemory};
+use crate::showing::show;
+use blob_base::{Bytes, Key, Listed, OutOfMemory};
 use blob_script::{Action, Answer, AnswerLine, Content, Step};
-use blob_store::{Look, Store, StoreFault};
-use disk_model::{Disk, Layout};
+use disk_model::Disk;
 use group_plan::{Queue, Replies, Reply};
 use std::alloc::Global;
+use vault::Vault;
 
 // How many sessions there are.
 const SESSIONS: usize = 16;
 
-/// The store of a run, its sessions by their numbers, and the requests in its queue.
+/// The vault of a run, its sessions by their numbers, and the requests in its queue.
 #[derive(Drop)]
-pub(crate) struct World {
-    pub(crate) store: Store,
+pub(crate) struct World<D> {
+    pub(crate) vault: Vault<D>,
     pub(crate) sessions: Vec<Session>,
     pub(crate) queue: Queue,
 }
@@ -89,35 +94,46 @@ fn reply_line(reply: &Reply) -> AnswerLine
 }
 
 // Deletes a key in a session's transaction.
-fn delete(
-    store: &Store,
+fn delete<D: Disk>(
+    vault: &Vault<D>,
     sessions: &mut Vec<Session>,
     session: u8,
     key: &Key,
 ) -> Result<AnswerLine, OutOfMemory>
     requires session { session < length sessions.old.items }
-    ensures { IfOk result (λ line. HasTurned store.now sessions.old.items sessions.new.items session (turn.Delete key.now) (model_line line)) }
+    ensures { IfOk result (λ line. HasTurned vault.now.memory sessions.old.items sessions.new.items session (turn.Delete key.now) (model_line line)) }
 {
-    let now = store.get(key);
-    sessions[session as usize].del(key, now, store.last)
+    let now = vault.look(key);
+    sessions[session as usize].del(key, now, vault.front())
 }
 
 // Looks at a key in a session's transaction.
-fn find(
-    store: &Store,
+fn find<D: Disk>(
+    vault: &Vault<D>,
     sessions: &mut Vec<Session>,
     session: u8,
     key: &Key,
 ) -> Result<Looked, OutOfMemory>
     requires session { session < length sessions.old.items }
-    ensures { IfOk result (HasLooked store.now sessions.old.items sessions.new.items session key.now) }
+    ensures { IfOk result (HasLooked vault.now.memory sessions.old.items sessions.new.items session key.now) }
 {
-    let now = store.get(key);
-    sessions[session as usize].look(key, now, store.last)
+    let now = vault.look(key);
+    sessions[session as usize].look(key, now, vault.front())
 }
 
-// Sixteen sessions that have begun nothing.
-fn new_sessions(alloc: Global) -> Result<Vec<Session>, OutOfMemory>
+// The sessions of the requests in a queue.
+fn waiting(alloc: Global, queue: &Queue) -> Result<Listed<u8>, OutOfMemory>
+    ensures { IfOk result (λ numbers. numbers ≡ map (λ request. request.session) queue.now) }
+{
+    let mut numbers = Listed::new(alloc);
+    'taken: for i in 0..queue.len() {
+        numbers.push(alloc, queue.get(i).session)?;
+    }
+    Ok(numbers)
+}
+
+/// Sixteen sessions that have begun nothing.
+pub(crate) fn new_sessions(alloc: Global) -> Result<Vec<Session>, OutOfMemory>
     ensures count { IfOk result (λ sessions. length sessions.items ≡ 16) }
     ensures new { IfOk result (λ sessions. AreNew sessions.items) }
 {
@@ -128,65 +144,70 @@ fn new_sessions(alloc: Global) -> Result<Vec<Session>, OutOfMemory>
     Ok(sessions)
 }
 
-impl World {
-    /// An empty store, and sessions that have begun nothing.
-    pub(crate) fn new(alloc: Global, layout: Layout) -> Result<World, OutOfMemory>
-        ensures sound { IfOk result IsWorld }
-        ensures layout { IfOk result (λ world. world.store.layout ≡ layout) }
-        ensures begun { IfOk result (HaveBegun 0) }
-        ensures stands { IfOk result (λ world. WorldStands world (world_over empty_store)) }
+impl<D: Disk> World<D> {
+    /// A vault that isn't shut, and sessions that have begun nothing.
+    pub(crate) fn over(alloc: Global, vault: Vault<D>, sessions: Vec<Session>) -> World<D>
+        requires vault { IsVault D.Disk vault.disk vault.memory vault.shut }
+        requires open { vault.shut ≡ None }
+        requires count { length sessions.items ≡ 16 }
+        requires new { AreNew sessions.items }
+        ensures sound { IsWorld D.Disk result }
+        ensures vault { result.vault ≡ vault }
+        ensures begun { HaveBegun 0 result }
+        ensures stands { (store : ModelStore) → StoreStands vault.memory store → WorldStands result (world_over store) }
     {
-        Ok(World {
-            store: Store::new(alloc, layout)?,
-            sessions: new_sessions(alloc)?,
+        World {
+            vault,
+            sessions,
             queue: Queue::new(alloc),
-        })
+        }
     }
 
     /// A step, whose answer is added to the text. After an `Err` nothing is said of the world.
-    pub(crate) fn step<D: Disk>(
+    pub(crate) fn step(
         &mut self,
         alloc: Global,
-        disk: &mut D,
         step: Step,
         text: &mut Bytes,
     ) -> Result<Played, StoreFault>
-        requires sound { IsWorld self.old }
+        requires sound { IsWorld D.Disk self.old }
         requires begun { HaveBegun (2 ^ 61) self.old }
         requires session { IsSession step }
         requires none { text.old ≡ [] }
-        requires disk { total_pages self.old.store.layout ≤ D.size disk.old }
         ensures play { (world : ModelWorld) → WorldStands self.old world
-            → IfOk result (DoesPlay D.Disk world (model_step step) text.new self.old self.new disk.old disk.new) }
-        ensures stepped { Stepped D.Disk disk.old disk.new self.old self.new result }
+            → IfOk result (DoesPlay D.Disk world (model_step step) text.new self.old self.new) }
+        ensures always { IfOk result (IsAlways (model_step step)) }
+        ensures stepped { Stepped D.Disk self.old self.new result }
     {
         match step {
-            Step::Session { session, action } => self.turn(alloc, disk, session, action, text),
+            Step::Session { session, action } => self.turn(alloc, session, action, text),
             Step::Lead => {
-                self.lead(alloc, disk, text)?;
+                self.lead(alloc, text)?;
                 Ok(Played::Answered)
             }
-            Step::Checkpoint => Ok(Played::NotBuilt),
+            Step::Checkpoint => {
+                self.checkpoint(alloc, text)?;
+                Ok(Played::Answered)
+            }
         }
     }
 
     // An action of a session.
-    fn turn<D: Disk>(
+    fn turn(
         &mut self,
         alloc: Global,
-        disk: &mut D,
         session: u8,
         action: Action,
         text: &mut Bytes,
     ) -> Result<Played, StoreFault>
-        requires sound { IsWorld self.old }
+        requires sound { IsWorld D.Disk self.old }
         requires begun { HaveBegun (2 ^ 61) self.old }
         requires session { session < 16 }
         requires none { text.old ≡ [] }
-        requires disk { total_pages self.old.store.layout ≤ D.size disk.old }
         ensures play { (world : ModelWorld) → WorldStands self.old world
-            → IfOk result (DoesPlay D.Disk world (script.Session session (model_action action)) text.new self.old self.new disk.old disk.new) }
-        ensures stepped { Stepped D.Disk disk.old disk.new self.old self.new result }
+            → IfOk result (DoesPlay D.Disk world (script.Session session (model_action action)) text.new self.old self.new) }
+        ensures always { IfOk result (IsAlways (script.Session session (model_action action))) }
+        ensures stepped { Stepped D.Disk self.old self.new result }
     {
         let line = match action {
             Action::Begin => self.begin(alloc, session),
@@ -195,11 +216,11 @@ impl World {
             Action::Put { key, content } => self.put(alloc, session, &key, &content)?,
             Action::Del { key } => self.del(session, &key)?,
             Action::Get { key } => {
-                self.look(alloc, disk, session, Look::Get, &key, text)?;
+                self.look(alloc, session, Look::Get, &key, text)?;
                 return Ok(Played::Answered);
             }
             Action::Stat { key } => {
-                self.look(alloc, disk, session, Look::Stat, &key, text)?;
+                self.look(alloc, session, Look::Stat, &key, text)?;
                 return Ok(Played::Answered);
             }
             Action::Append { .. } => return Ok(Played::NotBuilt),
@@ -216,30 +237,30 @@ impl World {
 
     // A begin of a session.
     fn begin(&mut self, alloc: Global, session: u8) -> AnswerLine
-        requires sound { IsWorld self.old }
+        requires sound { IsWorld D.Disk self.old }
         requires begun { HaveBegun (2 ^ 61) self.old }
         requires session { session < 16 }
-        ensures { TakesTurn self.old self.new session turn.Begin (model_line result) }
+        ensures { TakesTurn D.Disk self.old self.new session turn.Begin (model_line result) }
     {
-        let front = self.store.last;
+        let front = self.vault.front();
         self.sessions[session as usize].begin(alloc, session, front)
     }
 
     // An abort of a session.
     fn abort(&mut self, session: u8) -> AnswerLine
-        requires sound { IsWorld self.old }
+        requires sound { IsWorld D.Disk self.old }
         requires session { session < 16 }
-        ensures { TakesTurn self.old self.new session turn.Abort (model_line result) }
+        ensures { TakesTurn D.Disk self.old self.new session turn.Abort (model_line result) }
     {
         self.sessions[session as usize].abort()
     }
 
     // A commit of a session, whose request is then the last in the queue.
     fn commit(&mut self, alloc: Global, session: u8) -> Result<AnswerLine, OutOfMemory>
-        requires sound { IsWorld self.old }
+        requires sound { IsWorld D.Disk self.old }
         requires session { session < 16 }
-        ensures turn { IfOk result (λ line. TakesTurn self.old self.new session turn.Commit (model_line line)) }
-        ensures layout { self.new.store ≡ self.old.store }
+        ensures turn { IfOk result (λ line. TakesTurn D.Disk self.old self.new session turn.Commit (model_line line)) }
+        ensures vault { self.new.vault ≡ self.old.vault }
     {
         match self.sessions[session as usize].commit() {
             Ok(request) => {
@@ -258,49 +279,47 @@ impl World {
         key: &Key,
         content: &Content,
     ) -> Result<AnswerLine, OutOfMemory>
-        requires sound { IsWorld self.old }
+        requires sound { IsWorld D.Disk self.old }
         requires session { session < 16 }
-        ensures turn { IfOk result (λ line. TakesTurn self.old self.new session (turn.Put key.now (content_bytes content.now)) (model_line line)) }
-        ensures layout { self.new.store ≡ self.old.store }
+        ensures turn { IfOk result (λ line. TakesTurn D.Disk self.old self.new session (turn.Put key.now (content_bytes content.now)) (model_line line)) }
+        ensures vault { self.new.vault ≡ self.old.vault }
     {
         self.sessions[session as usize].put(alloc, key, content)
     }
 
     // A delete of a session.
     fn del(&mut self, session: u8, key: &Key) -> Result<AnswerLine, OutOfMemory>
-        requires sound { IsWorld self.old }
+        requires sound { IsWorld D.Disk self.old }
         requires session { session < 16 }
-        ensures turn { IfOk result (λ line. TakesTurn self.old self.new session (turn.Delete key.now) (model_line line)) }
-        ensures layout { self.new.store ≡ self.old.store }
+        ensures turn { IfOk result (λ line. TakesTurn D.Disk self.old self.new session (turn.Delete key.now) (model_line line)) }
+        ensures vault { self.new.vault ≡ self.old.vault }
     {
-        delete(&self.store, &mut self.sessions, session, key)
+        delete(&self.vault, &mut self.sessions, session, key)
     }
 
     // A look of a session at a key, whose answer is added to the text.
-    fn look<D: Disk>(
+    fn look(
         &mut self,
         alloc: Global,
-        disk: &mut D,
         session: u8,
         look: Look,
         key: &Key,
         text: &mut Bytes,
     ) -> Result<(), StoreFault>
-        requires sound { IsWorld self.old }
+        requires sound { IsWorld D.Disk self.old }
         requires session { session < 16 }
         requires none { text.old ≡ [] }
-        requires disk { total_pages self.old.store.layout ≤ D.size disk.old }
         ensures came { (world : ModelWorld) → WorldStands self.old world
-            → OnOk result (CameTo D.Disk world (transact world session (look_action look key.now)) text.new self.new disk.old disk.new) }
-        ensures stepped { Stepped D.Disk disk.old disk.new self.old self.new result }
+            → OnOk result (CameTo D.Disk world (transact world session (look_action look key.now)) text.new self.old self.new) }
+        ensures stepped { Stepped D.Disk self.old self.new result }
     {
-        let line = match find(&self.store, &mut self.sessions, session, key)? {
+        let line = match find(&self.vault, &mut self.sessions, session, key)? {
             Looked::Line { line } => line,
             Looked::Own => {
                 self.show_own(alloc, session, look, key, text)?;
                 return Ok(());
             }
-            Looked::Stored => self.store.show(alloc, disk, look, key)?,
+            Looked::Stored => show(alloc, &mut self.vault, look, key)?,
         };
         answer(alloc, text, session, line)?;
         Ok(())
@@ -339,58 +358,73 @@ impl World {
         }
     }
 
-    // A lead, whose answers are added to the text.
-    fn lead<D: Disk>(
-        &mut self,
-        alloc: Global,
-        disk: &mut D,
-        text: &mut Bytes,
-    ) -> Result<(), StoreFault>
-        requires sound { IsWorld self.old }
+    // A checkpoint, whose answer is added to the text.
+    fn checkpoint(&mut self, alloc: Global, text: &mut Bytes) -> Result<(), StoreFault>
+        requires sound { IsWorld D.Disk self.old }
         requires none { text.old ≡ [] }
-        requires disk { total_pages self.old.store.layout ≤ D.size disk.old }
         ensures came { (world : ModelWorld) → WorldStands self.old world
-            → OnOk result (CameTo D.Disk world (lead self.old.store.layout world) text.new self.new disk.old disk.new) }
-        ensures stepped { Stepped D.Disk disk.old disk.new self.old self.new result }
+            → OnOk result (CameTo D.Disk world (checkpointed world) text.new self.old self.new) }
+        ensures stepped { Stepped D.Disk self.old self.new result }
+    {
+        self.vault.turn()?;
+        Answer::Checkpointed.print(alloc, text)?;
+        Ok(())
+    }
+
+    // A lead, whose answers are added to the text.
+    fn lead(&mut self, alloc: Global, text: &mut Bytes) -> Result<(), StoreFault>
+        requires sound { IsWorld D.Disk self.old }
+        requires none { text.old ≡ [] }
+        ensures came { (world : ModelWorld) → WorldStands self.old world
+            → OnOk result (CameTo D.Disk world (lead self.old.vault.memory.layout world) text.new self.old self.new) }
+        ensures stepped { Stepped D.Disk self.old self.new result }
     {
         if self.queue.is_empty() {
             Answer::Idle.print(alloc, text)?;
             return Ok(());
         }
-        let replies = self.store.lead(alloc, disk, &self.queue)?;
-        self.reply_all(alloc, &replies, text)?;
+        let numbers = waiting(alloc, &self.queue)?;
+        let replies = self.vault.lead(alloc, &mut self.queue)?;
+        self.reply_all(alloc, &numbers, &replies, text)?;
         Ok(())
     }
 
-    // Answers the members at the front of the queue, which leave it.
+    // Answers the sessions of a group's members, which have nothing under way then.
     fn reply_all(
         &mut self,
         alloc: Global,
+        numbers: &Listed<u8>,
         replies: &Replies,
         text: &mut Bytes,
     ) -> Result<(), OutOfMemory>
         requires sixteen { length self.old.sessions.items ≡ 16 }
-        requires few { length replies.now ≤ length self.old.queue }
+        requires sessions { All (λ number. number < 16) numbers.now }
+        requires few { length replies.now ≤ length numbers.now }
         requires none { text.old ≡ [] }
-        ensures replied { OnOk result (Replying (length replies.now) self.old self.new) }
-        ensures text { OnOk result (text.new ≡ replies_text self.old.queue replies.now) }
-        ensures store { self.new.store ≡ self.old.store }
+        ensures replied { OnOk result (Replying (length replies.now) numbers.now self.old self.new) }
+        ensures text { OnOk result (text.new ≡ replies_text numbers.now replies.now) }
+        ensures vault { self.new.vault ≡ self.old.vault }
     {
         'replied: for i in 0..replies.len() {
-            self.reply(alloc, replies.get(i), text)?;
+            self.reply(alloc, *numbers.get(i), replies.get(i), text)?;
         }
         Ok(())
     }
 
-    // Answers the first member of the queue, which leaves it.
-    fn reply(&mut self, alloc: Global, reply: &Reply, text: &mut Bytes) -> Result<(), OutOfMemory>
+    // Answers a session, which has nothing under way then.
+    fn reply(
+        &mut self,
+        alloc: Global,
+        session: u8,
+        reply: &Reply,
+        text: &mut Bytes,
+    ) -> Result<(), OutOfMemory>
         requires sixteen { length self.old.sessions.items ≡ 16 }
-        requires some { 0 < length self.old.queue }
-        ensures left { LeavesFirst self.old self.new }
-        ensures text { OnOk result (text.new ≡ text.old ++ first_reply_text self.old.queue (model_reply reply.now)) }
+        requires session { session < 16 }
+        ensures left { LeavesFree self.old self.new session }
+        ensures text { OnOk result (text.new ≡ text.old ++ answer_text (SessionAnswer session (reply_line (model_reply reply.now)) None)) }
     {
-        let request = self.queue.remove_first();
-        self.sessions[request.session as usize].stage = Stage::Free;
-        answer(alloc, text, request.session, reply_line(reply))
+        self.sessions[session as usize].stage = Stage::Free;
+        answer(alloc, text, session, reply_line(reply))
     }
 }

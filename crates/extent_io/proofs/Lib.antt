@@ -2,3 +2,4 @@ pub mod Stands
 pub mod Pourings
 pub mod Gatherings
 pub mod Verifyings
+pub mod Stills

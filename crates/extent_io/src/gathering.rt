@@ -2,6 +2,7 @@
 
 ghost use Rattle.std.specs.Prelude.{◌≡◌, ℕ, ◌+◌, ◌-◌, ◌*◌, ◌/◌, ◌%◌, ◌<◌, ◌≤◌, List, length, take, drop, min, IsTrue, IfOk, OnOk, IfErr};
 ghost use Rattle.disk_model.specs.Disks.{Caused, OnlyReads};
+ghost use Rattle.store_model.specs.Cost.{Reads};
 ghost use Rattle.store_model.specs.Disk.{Took, page_bytes};
 ghost use Rattle.store_model.specs.Holds.{Holds, pages_across, place_of};
 ghost use Rattle.store_model.specs.Layout.{data_page, data_pages, total_pages};
@@ -30,6 +31,7 @@ pub fn gather<D: Disk>(
     ensures count { IfOk result (λ n. n ≡ min (length into.old) (state.now.size - off)) }
     ensures length { length into.new ≡ length into.old }
     ensures reads { IsTrue D.tells → IfOk result (λ n. Took (pages_across off n) 0 0 (D.calls disk.old) (D.calls disk.new)) }
+    ensures still { IsTrue D.tells → Reads (D.calls disk.old) (D.calls disk.new) }
     ensures only_reads { OnlyReads D.Disk disk.old disk.new }
     ensures cause { Caused D.Disk disk.old disk.new result }
 {
@@ -58,6 +60,7 @@ fn gather_pages<D: Disk>(
     ensures length { length into.new ≡ length into.old }
     ensures reads { IsTrue D.tells
         → OnOk result (Took ((off + length into.old - 1) / page_bytes + 1 - off / page_bytes) 0 0 (D.calls disk.old) (D.calls disk.new)) }
+    ensures still { IsTrue D.tells → Reads (D.calls disk.old) (D.calls disk.new) }
     ensures only_reads { OnlyReads D.Disk disk.old disk.new }
     ensures cause { Caused D.Disk disk.old disk.new result }
 {
@@ -86,6 +89,7 @@ fn read_page<D: Disk>(
     ensures bytes { IsTrue D.tells → OnOk result ((content : List ℕ)
         → Holds (D.story disk.old).reads (data_page layout) state.now content → BeginsAs into.new number content) }
     ensures reads { IsTrue D.tells → OnOk result (Took 1 0 0 (D.calls disk.old) (D.calls disk.new)) }
+    ensures still { IsTrue D.tells → Reads (D.calls disk.old) (D.calls disk.new) }
     ensures only_reads { OnlyReads D.Disk disk.old disk.new }
     ensures cause { Caused D.Disk disk.old disk.new result }
 {

@@ -2,6 +2,7 @@
 
 ghost use Rattle.std.specs.Prelude.{◌≡◌, ◌≢◌, ℕ, ◌+◌, ◌*◌, ◌/◌, ◌%◌, ◌<◌, ◌≤◌, List, length, min, Ok, IsTrue, IfOk, OnOk, IfErr};
 ghost use Rattle.disk_model.specs.Disks.{Caused, OnlyReads};
+ghost use Rattle.store_model.specs.Cost.{Reads};
 ghost use Rattle.store_model.specs.Disk.{Took, page_bytes};
 ghost use Rattle.store_model.specs.Hash.{close, state_after};
 ghost use Rattle.store_model.specs.Holds.{pages_from, place_of};
@@ -37,6 +38,7 @@ pub fn verify<D: Disk>(disk: &mut D, layout: Layout, state: &BlobState) -> Resul
 
     // Each page of a whole content is read once.
     ensures reads { IsTrue D.tells → result ≡ Ok Whole → Took (pages_from state.now.size 0) 0 0 (D.calls disk.old) (D.calls disk.new) }
+    ensures still { IsTrue D.tells → Reads (D.calls disk.old) (D.calls disk.new) }
     ensures only_reads { OnlyReads D.Disk disk.old disk.new }
     ensures cause { Caused D.Disk disk.old disk.new result }
 {
@@ -64,6 +66,7 @@ fn computed_value<D: Disk>(
     requires link { link ≤ length state.now.extents }
     ensures value { IsTrue D.tells → IfOk result (λ bytes. bytes ≡ computed (D.story disk.old).reads (data_page layout) state.now link) }
     ensures reads { IsTrue D.tells → OnOk result (Took (pages_of_link state.now link) 0 0 (D.calls disk.old) (D.calls disk.new)) }
+    ensures still { IsTrue D.tells → Reads (D.calls disk.old) (D.calls disk.new) }
     ensures only_reads { OnlyReads D.Disk disk.old disk.new }
     ensures cause { Caused D.Disk disk.old disk.new result }
 {
@@ -89,6 +92,7 @@ fn hash_extent<D: Disk>(
     ensures mark { IsTrue D.tells
         → IfOk result (λ mark. mark.words ≡ state_after before.words (extent_bytes (D.story disk.old).reads (data_page layout) state.now i)) }
     ensures reads { IsTrue D.tells → OnOk result (Took (pages_used state.now.size i) 0 0 (D.calls disk.old) (D.calls disk.new)) }
+    ensures still { IsTrue D.tells → Reads (D.calls disk.old) (D.calls disk.new) }
     ensures only_reads { OnlyReads D.Disk disk.old disk.new }
     ensures cause { Caused D.Disk disk.old disk.new result }
 {
@@ -116,6 +120,7 @@ fn hash_tail<D: Disk>(
     ensures digest { IsTrue D.tells → IfOk result (λ bytes. bytes ≡ close before.words (64 * (state.now.size / page_bytes))
         (tail_on (D.story disk.old).reads (data_page layout) state.now.size state.now.tail)) }
     ensures reads { IsTrue D.tells → OnOk result (Took (min 1 (state.now.size % page_bytes)) 0 0 (D.calls disk.old) (D.calls disk.new)) }
+    ensures still { IsTrue D.tells → Reads (D.calls disk.old) (D.calls disk.new) }
     ensures only_reads { OnlyReads D.Disk disk.old disk.new }
     ensures cause { Caused D.Disk disk.old disk.new result }
 {

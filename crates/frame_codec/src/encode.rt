@@ -114,8 +114,8 @@ fn append_write(alloc: Global, one: &Write, out: &mut Bytes) -> Result<(), OutOf
     }
 }
 
-// Appends an entry: its numbers, how many writes there are, and these.
-fn append_entry(alloc: Global, entry: &Entry, out: &mut Bytes) -> Result<(), OutOfMemory>
+/// Appends an entry: its numbers, how many writes there are, and these.
+pub fn append_entry(alloc: Global, entry: &Entry, out: &mut Bytes) -> Result<(), OutOfMemory>
     ensures { OnOk result (out.new ≡ out.old ++ entry_spelling (model_entry entry.now)) }
 {
     let writes = &entry.writes;

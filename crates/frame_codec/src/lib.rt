@@ -11,7 +11,7 @@ mod standing;
 mod writes;
 
 pub use decode::decode_frame;
-pub use encode::encode_frame;
+pub use encode::{append_entry, encode_frame};
 pub use entry::{Entries, Entry, Write};
 pub use fault::FrameFault;
 pub use writes::{MAX_WRITES, Writes};

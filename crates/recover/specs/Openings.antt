@@ -1,10 +1,11 @@
 -- What is found on a disk that is opened.
-use Rattle.std.specs.Prelude.{ℕ, ◌≡◌, ◌≤◌, ◌<◌}
+use Rattle.std.specs.Prelude.{ℕ, ◌≡◌, ◌+◌, ◌≤◌, ◌<◌}
 use Rattle.recover.specs.declared.opening.Found.{Found}
-use Rattle.store_model.specs.Disk.{Image}
+use Rattle.store_model.specs.Disk.{Calls, Image}
 use Rattle.store_model.specs.Half.{IsHalf, picked}
 use Rattle.store_model.specs.HalfRefusals.{FindsHalf}
 use Rattle.store_model.specs.Layout.{data_page, total_pages}
+use Rattle.store_model.specs.Log.{body_pages}
 use Rattle.store_model.specs.Reading as reading
 use Rattle.store_model.specs.Reading.{blocks_of_states}
 use Rattle.store_model.specs.Space.{Apart}
@@ -25,3 +26,8 @@ pub record IsMetadata (pages : ℕ) (image : Image) (p : ℕ) : Type 0 where
   pub start : reading.Found
   pub finds : FindsHalf pages image (picked (image 0)) start.layout start.last start.states
   pub before : p < data_page start.layout
+
+-- A disk has taken the writes and syncs of an opening with states of so many bytes: a sync, and a turn. Nothing is said of its reads.
+pub record TookOpening (bytes : ℕ) (old new : Calls) : Type 0 where
+  pub writes : new.writes ≡ old.writes + (body_pages bytes + 3)
+  pub syncs : new.syncs ≡ old.syncs + 3

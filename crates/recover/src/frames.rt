@@ -11,6 +11,7 @@ ghost use Rattle.recover.specs.Faults.{CameFrom, IsFirstBadFault, IsOfLog};
 ghost use Rattle.recover.specs.Frames.{Adds, AreStored, DroppedBehind, DroppedBy, IsMade, IsSound, IsUpTo, KeptBehind, KeptBy, greatest_growth, held_of};
 ghost use Rattle.relation.specs.Changes.{bytes_limit};
 ghost use Rattle.relation.specs.Parts.{encoded_by};
+ghost use Rattle.store_model.specs.Cost.{Reads};
 ghost use Rattle.store_model.specs.Drops.{AreDroppedLast};
 ghost use Rattle.store_model.specs.Frame as model;
 ghost use Rattle.store_model.specs.Layout.{data_pages, total_pages};
@@ -73,6 +74,7 @@ impl Held {
         ensures bytes { OnOk result (encoded_by self.new.relation.states ≤ encoded_by self.old.relation.states + greatest_growth) }
         ensures layout { self.new.layout ≡ self.old.layout }
         ensures last { self.new.last ≡ self.old.last }
+        ensures still { IsTrue D.tells → Reads (D.calls disk.old) (D.calls disk.new) }
         ensures only { OnlyReads D.Disk disk.old disk.new }
         ensures failed { IsErrOf result Failed → Rose (D.faults disk.old) (D.faults disk.new) }
     {
@@ -109,6 +111,7 @@ impl Held {
         ensures stored { OnOk result (AreStored (data_pages self.old.layout) self.old.last self.new.relation.states) }
         ensures layout { self.new.layout ≡ self.old.layout }
         ensures last { self.new.last ≡ self.old.last }
+        ensures still { IsTrue D.tells → Reads (D.calls disk.old) (D.calls disk.new) }
         ensures only { OnlyReads D.Disk disk.old disk.new }
         ensures failed { IsErrOf result Failed → Rose (D.faults disk.old) (D.faults disk.new) }
     {
@@ -137,6 +140,7 @@ impl Held {
             → Adds (DroppedBehind is_last (D.story disk.old).reads self.old.layout) (stored_body body.now ∷ []) self.old.dropped self.new.dropped) }
         ensures sound { IfOk result (λ taken. IsTrue taken → IsSound self.new) }
         ensures layout { self.new.layout ≡ self.old.layout }
+        ensures still { IsTrue D.tells → Reads (D.calls disk.old) (D.calls disk.new) }
         ensures only { OnlyReads D.Disk disk.old disk.new }
         ensures failed { IsErrOf result Failed → Rose (D.faults disk.old) (D.faults disk.new) }
     {
@@ -172,6 +176,7 @@ impl Held {
             (Adds (DroppedBehind is_closed (D.story disk.old).reads self.old.layout) (stored bodies.now) self.old.dropped self.new.dropped) }
         ensures sound { OnOk result (IsSound self.new) }
         ensures layout { self.new.layout ≡ self.old.layout }
+        ensures still { IsTrue D.tells → Reads (D.calls disk.old) (D.calls disk.new) }
         ensures only { OnlyReads D.Disk disk.old disk.new }
         ensures failed { IfErr result (CameFrom (D.faults disk.old) (D.faults disk.new)) }
     {
@@ -208,6 +213,7 @@ impl Held {
             × Adds (AreDroppedLast (D.story disk.old).reads self.old.layout) bodies self.old.dropped self.new.dropped))) }
         ensures sound { OnOk result (IsSound self.new) }
         ensures layout { self.new.layout ≡ self.old.layout }
+        ensures still { IsTrue D.tells → OnOk result (Reads (D.calls disk.old) (D.calls disk.new)) }
         ensures only { OnlyReads D.Disk disk.old disk.new }
         ensures failed { IfErr result (CameFrom (D.faults disk.old) (D.faults disk.new)) }
     {

@@ -5,8 +5,11 @@ ghost use Rattle.blob_base.specs.declared.faults.StoreRefusal.{StoreRefusal as W
 ghost use Rattle.disk_model.specs.Disks.{OnlyReads, OnlyWrites};
 ghost use Rattle.recover.specs.Faults.{CameFrom, IsOfHalf, IsOfSpace, IsRead};
 ghost use Rattle.recover.specs.Frames.{IsSound};
-ghost use Rattle.recover.specs.Openings.{IsFound, IsMetadata, found_of};
+ghost use Rattle.recover.specs.Openings.{IsFound, IsMetadata, TookOpening, found_of};
+ghost use Rattle.recover.specs.Turns.{IsTurned};
 ghost use Rattle.recover.specs.declared.fault.RecoverFault.TheVariants.{Refused};
+ghost use Rattle.relation.specs.Parts.{encoded_by};
+ghost use Rattle.store_model.specs.Cost as cost;
 ghost use Rattle.store_model.specs.Drops.{Drops};
 ghost use Rattle.store_model.specs.Half.{IsHalf};
 ghost use Rattle.store_model.specs.HalfRefusals.{FindsHalf};
@@ -50,6 +53,7 @@ fn open_half<D: Disk>(alloc: Global, disk: &mut D, half: u32) -> Result<Held, Re
     ensures none { IfOk result (λ held. held.dropped ≡ []) }
     ensures sound { IfOk result IsSound }
     ensures fits { IfOk result (λ held. total_pages held.layout ≤ D.size disk.old) }
+    ensures still { IsTrue D.tells → OnOk result (cost.Reads (D.calls disk.old) (D.calls disk.new)) }
     ensures only { OnlyReads D.Disk disk.old disk.new }
     ensures failed { IfErr result (CameFrom (D.faults disk.old) (D.faults disk.new)) }
 {
@@ -91,12 +95,17 @@ pub fn recover<D: Disk>(alloc: Global, disk: &mut D) -> Result<Found, RecoverFau
         Reads (D.size disk.old) (D.story disk.old).reads (Opened (found_of found))) }
     ensures turned { IsTrue D.tells → IfOk result (λ found.
         Reads (D.size disk.old) (D.story disk.new).reads (Opened (found_of found))) }
+    ensures at { IsTrue D.tells → IfOk result (λ found. IsTurned (D.story disk.new) found.log.half) }
     ensures dropped { IsTrue D.tells → IfOk result (λ found. Drops (D.size disk.old) (D.story disk.old).reads found.dropped) }
     ensures refused { IsTrue D.tells → IfErr result (IsRead (D.size disk.old) (D.story disk.old).reads) }
     ensures untouched { (why : Why) → result ≡ Err (Refused why) → OnlyReads D.Disk disk.old disk.new }
 
     // Whatever the disk tells, what was found is a store that fits it.
     ensures sound { IfOk result (λ found. IsFound (D.size disk.old) found) }
+
+    // It cost the writes of a turn, and a sync before it.
+    ensures calls { IsTrue D.tells → IfOk result (λ found.
+        TookOpening (encoded_by found.relation.states) (D.calls disk.old) (D.calls disk.new)) }
 
     // No page of the data area was written, and a crash leaves each as before.
     ensures wrote { OnlyWrites D.Disk (IsMetadata (D.size disk.old) (D.story disk.old).reads) disk.old disk.new }

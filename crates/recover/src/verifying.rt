@@ -4,6 +4,7 @@ ghost use Rattle.std.specs.Prelude.{ℕ, ◌≡◌, ◌≤◌, false, map, IfOk,
 ghost use Rattle.std.specs.List.{All};
 ghost use Rattle.disk_model.specs.Disks.{Caused, OnlyReads};
 ghost use Rattle.frame_codec.specs.Values.{model_write};
+ghost use Rattle.store_model.specs.Cost.{Reads};
 ghost use Rattle.store_model.specs.Frame.{IsWrite};
 ghost use Rattle.store_model.specs.Layout.{data_pages, total_pages};
 ghost use Rattle.store_model.specs.Reading.{DoesWriteVerify};
@@ -19,6 +20,7 @@ fn write_verifies<D: Disk>(disk: &mut D, layout: Layout, one: &Write) -> Result<
     requires write { (number : ℕ) × IsWrite (data_pages layout) number (model_write one.now) }
     ensures verifies { IsTrue D.tells → IfOk result (λ is. IsTrue is → DoesWriteVerify (D.story disk.old).reads layout (model_write one.now)) }
     ensures fails { IsTrue D.tells → IfOk result (λ is. is ≡ false → DoesWriteVerify (D.story disk.old).reads layout (model_write one.now) → ⊥) }
+    ensures still { IsTrue D.tells → Reads (D.calls disk.old) (D.calls disk.new) }
     ensures only { OnlyReads D.Disk disk.old disk.new }
     ensures cause { Caused D.Disk disk.old disk.new result }
 {
@@ -43,6 +45,7 @@ pub(crate) fn verifies<D: Disk>(
         → All (DoesWriteVerify (D.story disk.old).reads layout) (map model_write writes.now)) }
     ensures fails { IsTrue D.tells → IfOk result (λ is. is ≡ false
         → All (DoesWriteVerify (D.story disk.old).reads layout) (map model_write writes.now) → ⊥) }
+    ensures still { IsTrue D.tells → Reads (D.calls disk.old) (D.calls disk.new) }
     ensures only { OnlyReads D.Disk disk.old disk.new }
     ensures cause { Caused D.Disk disk.old disk.new result }
 {

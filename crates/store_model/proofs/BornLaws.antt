@@ -54,7 +54,7 @@ writes-origin states (one ∷ writes) key state is =
     ]
 
 -- A state behind entries was there before them, or one of them sets it.
-entries-origin : (states : FinMap key_order State) (entries : List Entry) (key : List ℕ) (state : State) → get (with_entries states entries) key ≡ Some state
+pub entries-origin : (states : FinMap key_order State) (entries : List Entry) (key : List ℕ) (state : State) → get (with_entries states entries) key ≡ Some state
     → (get states key ≡ Some state) ⊎ ((entry : Entry) × (Contains entries entry × Contains entry.writes (Set key state)))
 entries-origin states [] key state is = inl is
 entries-origin states (entry ∷ entries) key state is =

@@ -40,6 +40,7 @@ pub mod StoredLaws
 pub mod CountLaws
 pub mod HeldLaws
 pub mod HoldsLaws
+pub mod LeadsToLaws
 pub mod PageLaws
 pub mod OrderLaws
 pub mod SortedLaws
@@ -80,11 +81,13 @@ pub mod WindowLaws
 pub mod WindowHeldLaws
 pub mod WindowNextLaws
 pub mod WindowRoomLaws
+pub mod FoundLaws
 pub mod SurvivalPartLaws
 pub mod SurvivalKeptLaws
 pub mod SurvivalLaws
 pub mod SurvivalRightLaws
 pub mod SurvivalHeldLaws
+pub mod WholeLaws
 pub mod SurvivalMemberLaws
 pub mod SurvivalGroupLaws
 pub mod SurvivalPlayLaws

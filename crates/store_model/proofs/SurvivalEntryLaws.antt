@@ -12,7 +12,7 @@ use Rattle.store_model.specs.Key.{key_order}
 use Rattle.store_model.specs.Layout.{Layout, data_page}
 use Rattle.store_model.specs.Placing.{Placed}
 use Rattle.store_model.specs.Reading.{AreKept, DoesWriteVerify, Found, Opened, Reads, with_entries, with_entry, with_write}
-use Rattle.store_model.specs.Standing.{AllStand, BothStand, SameObjects, StandsFor}
+use Rattle.store_model.specs.Standing.{AllHeld, BothStand, SameObjects, StandsFor}
 use Rattle.store_model.specs.State.{State}
 use Rattle.store_model.specs.Store.{Object, Store}
 use Rattle.store_model.specs.Survival.{AreKeptCommits, BothTold, DoesCommitVerify, DoesObjectVerify, Group, IsByChance, IsUnder, ReadsAsPart, with_changes, with_commits, with_placed}
@@ -148,7 +148,7 @@ entries-written after states objects (commit ∷ commits) (entry ∷ entries) ar
 
 -- So what is told under each key is right.
 told-written : (image : Image) (layout : Layout) (before after : Store) (kept : List Commit) (key : List ℕ) (state : Option State) → HasPages image
-    → ((commit : Commit) → Contains kept commit → DoesCommitVerify image layout after commit) → AllStand image layout before.objects
+    → ((commit : Commit) → Contains kept commit → DoesCommitVerify image layout after commit) → AllHeld image layout before.objects
     → BothStand state (get (with_commits before.objects after.objects kept) key)
     → BothTold (IsByChance image layout after kept key) image (data_page layout) state (get (with_commits before.objects after.objects kept) key)
 told-written image layout before after kept key state pages verify stand both =
@@ -184,7 +184,7 @@ told-written image layout before after kept key state pages verify stand both =
 -- A disk reads as a part of a group whose entries stand in its last frame, if the objects before the group stand on it.
 pub ReadsAsPart-written : (pages : ℕ) (image : Image) (layout : Layout) (before : Store) (group : Group) (found : Found) (states : FinMap key_order State)
     (entries rest : List Entry) → HasPages image → Reads pages image (Opened found) → found.layout ≡ layout → found.last ≡ group.after.last
-    → SameObjects states before.objects → AllStand image layout before.objects → AreWrittenBy group.after group.commits entries
+    → SameObjects states before.objects → AllHeld image layout before.objects → AreWrittenBy group.after group.commits entries
     → AreKept image layout entries rest → found.states ≡ with_entries states rest → ReadsAsPart pages image layout before group
 ReadsAsPart-written pages image layout before group found states entries rest whole reads layout_is last_is same stand are kept states_are =
     let part = kept-written image layout group.after group.commits entries rest are kept in

@@ -7,11 +7,11 @@ use Rattle.std.proofs.lemmas.Bool.{both_ways, cases_Bool}
 use Rattle.std.proofs.lemmas.Slice.Eq.{bytes_eq-Decides}
 use Rattle.store_model.specs.Disk.{HasPages, Image}
 use Rattle.store_model.specs.Group.{Commit}
-use Rattle.store_model.specs.Holds.{Holds, HoldsAt, ObjectStands}
+use Rattle.store_model.specs.Holds.{Holds, HoldsAt}
 use Rattle.store_model.specs.Key.{key_order}
 use Rattle.store_model.specs.Layout.{Layout, data_page}
 use Rattle.store_model.specs.Reading.{Found, Opened, Reads}
-use Rattle.store_model.specs.Standing.{AllStand, BothStand, SameObjects, StandsFor}
+use Rattle.store_model.specs.Standing.{AllHeld, BothStand, SameObjects, StandsFor}
 use Rattle.store_model.specs.State.{IsState, State}
 use Rattle.store_model.specs.Store.{Object, Placement, Store}
 use Rattle.store_model.specs.Survival.{BothTold, IsByChance, IsObjectOn, IsUnder, ReadsAs}
@@ -44,27 +44,27 @@ told-kept image layout after kept key state object pages under there stands veri
   ];
 }
 
--- An object that stands on a disk is told, if a state stands for it.
-pub told-standing : (image : Image) (first : ℕ) (state : State) (object : Object) → StandsFor state object → ObjectStands image first object
+-- An object whose content is held on a disk is told, if a state stands for it.
+pub told-standing : (image : Image) (first : ℕ) (state : State) (object : Object) → StandsFor state object → HoldsAt image first object.place object.content
     → IsObjectOn ⊥ image first state object
 told-standing image first state object stands on_disk = record {
   stands = stands;
   holds = λ none. record {
     size = sym stands.tells.size;
-    at = subst (λ (place : Placement). HoldsAt image first place object.content) (sym stands.place) on_disk.held;
+    at = subst (λ (place : Placement). HoldsAt image first place object.content) (sym stands.place) on_disk;
   };
 }
 
 both-told : (image : Image) (first : ℕ) (state : Option State) (object : Option Object) → BothStand state object
-    → ((one : Object) → object ≡ Some one → ObjectStands image first one) → BothTold ⊥ image first state object
+    → ((one : Object) → object ≡ Some one → HoldsAt image first one.place one.content) → BothTold ⊥ image first state object
 both-told image first None None both on_disk = tt
 both-told image first None (Some object) both on_disk = absurd both
 both-told image first (Some state) None both on_disk = absurd both
 both-told image first (Some state) (Some object) both on_disk = told-standing image first state object both (on_disk object refl)
 
--- A disk reads as objects for which its states stand, and which stand on it.
+-- A disk reads as objects for which its states stand, and whose contents are held on it.
 pub ReadsAs-standing : (pages : ℕ) (image : Image) (found : Found) (objects : FinMap key_order Object) → Reads pages image (Opened found)
-    → SameObjects found.states objects → AllStand image found.layout objects → ReadsAs pages image found.layout objects found.last
+    → SameObjects found.states objects → AllHeld image found.layout objects → ReadsAs pages image found.layout objects found.last
 ReadsAs-standing pages image found objects reads same stand = record {
   found = found;
   reads = reads;

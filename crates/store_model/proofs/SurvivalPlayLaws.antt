@@ -11,7 +11,7 @@ use Rattle.store_model.specs.Script.{Action, Asks, Checkpoint, Close, Find, Lead
 use Rattle.store_model.specs.Store.{Store}
 use Rattle.store_model.specs.Survival.{AreChangesApart, Group, IsUnder, group_of, groups_of, store_at}
 use Rattle.store_model.specs.Turn as turn
-use Rattle.store_model.specs.World.{Outcome, World, group_in, lead, lead_queue, led, with_commit, world_over}
+use Rattle.store_model.specs.World.{Outcome, World, checkpointed, group_in, lead, lead_queue, led, with_commit, world_over}
 use Rattle.store_model.proofs.SurvivalGroupLaws.{commits-last, commits-others, group-committed}
 
 -- a group behind a store
@@ -85,7 +85,9 @@ step-outcome : (layout : Layout) (world : World) (step : Step) (outcome : Outcom
 step-outcome layout world Lead outcome is =
     let same : lead layout world ≡ outcome = cc is in
     subst (λ (o : Outcome). IsOutcome world.store o) same (lead-outcome layout world world.queue)
-step-outcome layout world Checkpoint outcome is = absurd (cc is)
+step-outcome layout world Checkpoint outcome is =
+    let same : checkpointed world ≡ outcome = cc is in
+    subst (λ (o : Outcome). IsOutcome world.store o) same (idle-outcome world.store (checkpointed world) refl refl)
 step-outcome layout world (Session number action) outcome is = action-outcome world number action outcome is
 
 -- lines as they were played over a store: their groups follow it, and the last of them leaves the store that they leave

@@ -42,7 +42,7 @@ words-same (v ∷ a) (w ∷ b) len low less same =
     let rest : a ≡ b = words-same a b (omega arith) (λ k. low (suc k)) (λ k. less (suc k)) both.1 in
     rw (head, rest) refl
 
-marks-same : (a b : List ℕ) → IsMark a → IsMark b → bytes_of_state a ≡ bytes_of_state b → a ≡ b
+pub marks-same : (a b : List ℕ) → IsMark a → IsMark b → bytes_of_state a ≡ bytes_of_state b → a ≡ b
 marks-same a b one other same = words-same a b (one.eight ∙ sym other.eight) one.words other.words same
 
 -- heads that are numbers of four bytes

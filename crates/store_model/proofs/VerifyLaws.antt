@@ -58,7 +58,7 @@ slice_get-index [] i less = absurd (omega arith)
 slice_get-index (h ∷ heads) zero less = refl
 slice_get-index (h ∷ heads) (suc i) less = slice_get-index heads i (omega arith)
 
-slice_get-or : (marks : List (List ℕ)) (i : ℕ) (d : List ℕ) → i < length marks → slice_get marks i ≡ Some (slice_index_or marks i d)
+pub slice_get-or : (marks : List (List ℕ)) (i : ℕ) (d : List ℕ) → i < length marks → slice_get marks i ≡ Some (slice_index_or marks i d)
 slice_get-or [] i d less = absurd (omega arith)
 slice_get-or (m ∷ marks) zero d less = refl
 slice_get-or (m ∷ marks) (suc i) d less = slice_get-or marks i d (omega arith)
@@ -79,19 +79,19 @@ uses : (image : Image) (first : ℕ) (state : State) (content : List ℕ) (i : �
 uses image first state content i known less =
     subst (λ (n : ℕ). UsesExtent n i) known.tells.size (UsesExtent-HasShape state.size i _ known.sound.extents less)
 
-held-none : held_by 0 ≡ 0
+pub held-none : held_by 0 ≡ 0
 unfolding held_by
 held-none = refl
 
 -- a later link begins with the mark before
-link_from-next : (state : State) (i : ℕ) → link_from state (suc i) ≡ mark_at state i
+pub link_from-next : (state : State) (i : ℕ) → link_from state (suc i) ≡ mark_at state i
 link_from-next state i =
     let no : nat_lt (suc i) 1 ≡ false = grind (arith, nat_tests) in
     let before : suc i - 1 ≡ i = omega arith in
     ap (λ (b : Bool). cond b initial_state (mark_at state (suc i - 1))) no ∙ ap (mark_at state) before
 
 -- how many bytes stand before extent i
-abbrev before_of : ℕ → ℕ → ℕ
+abbrev pub before_of : ℕ → ℕ → ℕ
 before_of size i = page_bytes * min (held_by i) (size / page_bytes)
 
 -- a link begins with what the bytes before it lead to

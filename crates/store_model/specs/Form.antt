@@ -2,10 +2,12 @@
 use Rattle.std.specs.Prelude.{◌≡◌, ◌≢◌, List, [], ◌∷◌, ℕ, codes, decimal}
 use Rattle.store_model.specs.Layout.{Layout, IsLayout}
 
--- What a command line asks for: to format a store of this layout; to do so and run a script on it; to show a store, or to check it.
+-- What a command line asks for: to format a store of this layout; to do so and run a script on it; to run a script on a store that there
+-- is; to show one, or to check it.
 pub data Form : Type 0 where
   Format : Layout → Form
   Fresh : Layout → Form
+  Steps : Form
   Show : Form
   Check : Form
 
@@ -24,6 +26,7 @@ pub record IsOfLayout (verb : List ℕ) (words : List (List ℕ)) (layout : Layo
 abbrev pub IsForm : List (List ℕ) → Form → Type 0
 IsForm words (Format layout) = IsOfLayout (codes "format") words layout
 IsForm words (Fresh layout) = IsOfLayout (codes "fresh") words layout
+IsForm words Steps = IsOfFile (codes "steps") words []
 IsForm words Show = IsOfFile (codes "show") words []
 IsForm words Check = IsOfFile (codes "check") words []
 

@@ -1,5 +1,5 @@
 -- The play of a script: line by line what is answered, what is committed, and the store after it.
-use Rattle.std.specs.Prelude.{ℕ, ◌+◌, List, [], ◌∷◌, ◌++◌, Option, Some, None}
+use Rattle.std.specs.Prelude.{ℕ, ◌+◌, List, [], ◌∷◌, ◌++◌, Bool, false, Option, Some, None}
 use Rattle.std.specs.List.{flat_map}
 use Rattle.store_model.specs.Answer as answer
 use Rattle.store_model.specs.Answer.{answer_text}
@@ -11,7 +11,7 @@ use Rattle.store_model.specs.Space.{Block}
 use Rattle.store_model.specs.Store.{Store}
 use Rattle.store_model.specs.Turn.{Session, Stage, session_after}
 use Rattle.store_model.specs.Turn as turn
-use Rattle.store_model.specs.World.{Outcome, World, lead, with_session, world_over}
+use Rattle.store_model.specs.World.{Outcome, World, checkpointed, lead, with_session, world_over}
 
 -- A session that has just queued its request stands at the end of the queue.
 abbrev pub queue_after : turn.Action → Stage → List ℕ → ℕ → List ℕ
@@ -25,6 +25,7 @@ abbrev pub turned : World → ℕ → turn.Action → turn.Turned → Outcome
 turned world number action done = record {
   text = answer_text (answer.Session number done.line None);
   commits = [];
+  turns = false;
   world = record {
     store = world.store;
     sessions = with_session world.sessions number (session_after (world.sessions number) action done);
@@ -45,18 +46,20 @@ action_play world number _ = None
 -- what comes of a step in a store of this layout; none where its verb isn't built
 abbrev pub step_play : Layout → World → Step → Option Outcome
 step_play layout world script.Lead = Some (lead layout world)
-step_play layout world script.Checkpoint = None
+step_play layout world script.Checkpoint = Some (checkpointed world)
 step_play layout world (script.Session number action) = action_play world number action
 
--- a line of a script as it was played: what it printed, the transactions that it committed, and the store after it
+-- a line of a script as it was played: what it printed, the transactions that it committed, whether it turned the halves by itself, and
+-- the store after it
 pub record PlayedLine : Type 0 where
   pub text : List ℕ
   pub commits : List Commit
+  pub turns : Bool
   pub store : Store
 
 -- the line of a step
 abbrev pub played_line : Outcome → PlayedLine
-played_line outcome = record { text = outcome.text; commits = outcome.commits; store = outcome.world.store }
+played_line outcome = record { text = outcome.text; commits = outcome.commits; turns = outcome.turns; store = outcome.world.store }
 
 -- A script ends at the end of the input, at its first malformed line, or at the first whose verb isn't built.
 pub data End : Type 0 where

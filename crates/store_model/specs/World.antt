@@ -1,5 +1,5 @@
 -- The world that a script's lines change, and a lead: the commit of the group at the front of its queue.
-use Rattle.std.specs.Prelude.{ℕ, ◌+◌, ◌*◌, ◌==◌, List, [], ◌∷◌, length, map, drop, fold, Option, Some, None, Ok, Err, option_map, if◌then◌else◌}
+use Rattle.std.specs.Prelude.{ℕ, ◌+◌, ◌*◌, ◌==◌, List, [], ◌∷◌, length, map, drop, fold, Bool, true, false, Option, Some, None, Ok, Err, option_map, if◌then◌else◌}
 use Rattle.std.specs.List.{flat_map, list_any, sum_by}
 use Rattle.std.specs.FinMap.{FinMap, entries, get}
 use Rattle.store_model.specs.Answer as answer
@@ -129,10 +129,11 @@ freed sessions members number =
     if list_any (λ member. number == member.asked.session) members then record { begun = (sessions number).begun; stage = Free }
     else sessions number
 
--- what a step prints, the transactions that it commits, and the world after it
+-- what a step prints, the transactions that it commits, whether it turns the halves of the disk by itself, and the world after it
 pub record Outcome : Type 0 where
   pub text : List ℕ
   pub commits : List Commit
+  pub turns : Bool
   pub world : World
 
 -- what comes of the lead of these members: a line for each; their transactions are made, in order; and they leave the queue
@@ -140,6 +141,7 @@ abbrev pub led : World → List Member → Outcome
 led world members = record {
   text = flat_map reply_text members;
   commits = commits_of members;
+  turns = false;
   world = record {
     store = fold (with_commit world.sessions) world.store (commits_of members);
     sessions = freed world.sessions members;
@@ -149,7 +151,7 @@ led world members = record {
 
 -- a lead of an empty queue
 abbrev pub idle : World → Outcome
-idle world = record { text = answer_text answer.Idle; commits = []; world = world }
+idle world = record { text = answer_text answer.Idle; commits = []; turns = false; world = world }
 
 -- a lead at this queue
 abbrev pub lead_queue : Layout → World → List ℕ → Outcome
@@ -159,3 +161,7 @@ lead_queue layout world (session ∷ queue) = led world (group_in layout world)
 -- A lead commits the group at the front of the queue.
 abbrev pub lead : Layout → World → Outcome
 lead layout world = lead_queue layout world world.queue
+
+-- A checkpoint turns the halves, and changes nothing else.
+abbrev pub checkpointed : World → Outcome
+checkpointed world = record { text = answer_text answer.Checkpointed; commits = []; turns = true; world = world }

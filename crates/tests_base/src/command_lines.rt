@@ -32,6 +32,21 @@ fn words_that_are_forms(rt: HostRuntime) -> Result<(), Fail> {
 }
 
 #[test]
+fn words_of_the_other_forms(rt: HostRuntime) -> Result<(), Fail> {
+    for (line, form) in [
+        ("format s 1 1", Form::Format { units: 1, room: 1 }),
+        ("steps s", Form::Steps),
+        ("steps steps", Form::Steps),
+        ("show s", Form::Show),
+        ("check s", Form::Check),
+    ] {
+        let words = words_of(rt.alloc(), line)?;
+        assert!(rt; Form::read(words.as_slice()) == Some(form), "{line}");
+    }
+    Ok(())
+}
+
+#[test]
 fn words_that_are_none(rt: HostRuntime) -> Result<(), Fail> {
     for line in [
         "",
@@ -48,6 +63,11 @@ fn words_that_are_none(rt: HostRuntime) -> Result<(), Fail> {
         "fresh s +1 1",
         "fresh s 1 4294967297",
         "Fresh s 1 1",
+        "steps",
+        "steps ",
+        "steps s 1",
+        "steps s 1 1",
+        "Steps s",
     ] {
         let words = words_of(rt.alloc(), line)?;
         assert!(rt; Form::read(words.as_slice()).is_none(), "{line}");

@@ -4,11 +4,10 @@ ghost use Rattle.std.specs.Prelude.{false};
 ghost use Rattle.disk_model.specs.Memory.{disk_faults, disk_size};
 ghost use Rattle.disk_model.specs.Disks.{untold};
 
-use crate::trial::Trial;
+use crate::trial::{Trial, value_of};
 use blob_base::{Bytes, Bytes64, IoFault, Key};
 use blob_script::Status;
 use disk_model::{Disk, MemDisk, Page};
-use std::process::Abort;
 use std::test::Fail;
 
 // A disk that gives another first byte of one page than was written there.
@@ -50,12 +49,6 @@ impl Disk for Flipped {
     fn sync(&mut self) -> Result<(), IoFault> {
         self.disk.sync()
     }
-}
-
-fn value_of<R: Abort>(rt: &R, digits: &str) -> [u8; 32] {
-    let mut value = [0; 32];
-    assert!(rt; hex::decode_to_slice(digits, &mut value).is_ok());
-    value
 }
 
 // A content of five pages and one byte stands on data pages 0 to 4, the last of which begins an extent of two, and 6.

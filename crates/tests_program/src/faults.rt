@@ -1,11 +1,12 @@
 // Faults of the source, the sink and the disk, and want of memory.
 
-use crate::trial::{FIRST, FIRST_OUTPUT, Trial, append_made};
+use crate::trial::{FIRST, FIRST_OUTPUT, FRESH_CALLS, Trial, append_made};
 use blob_base::Bytes;
 use blob_script::Status;
 use std::test::Fail;
 
-// Two puts, one of them of two extents and a tail, and a get of it. The disk takes four writes, a sync and three reads.
+// Two puts, one of them of two extents and a tail, and a get of it. The disk takes the frame, the next
+// gate, a sync, four pages of contents, the gate and a sync, and then three reads.
 const TWO_PUTS: &[u8] =
     b"0 begin\n0 put a/b x:01\n0 put a/a g:8193:9\n0 commit\nlead\n0 begin\n0 get a/a\n";
 
@@ -58,16 +59,16 @@ fn a_sink_that_takes_nothing(rt: HostRuntime) {
 fn disk_calls_that_fail(rt: HostRuntime) -> Result<(), Fail> {
     let front = b"0 begun\n0 put\n0 put\n0 queued\ndisk fault\n".as_slice();
     let all = b"0 begun\n0 put\n0 put\n0 queued\n0 committed 1\n0 begun\ndisk fault\n".as_slice();
-    for call in 1..9 {
+    for call in 1..13 {
         let trial = Trial {
-            failing_disk_calls: &[call],
+            failing_disk_calls: &[FRESH_CALLS + call],
             ..Trial::of(TWO_PUTS)
         };
-        let output = if call <= 5 { front } else { all };
+        let output = if call <= 9 { front } else { all };
         trial.expect(&rt, output, &Status::DiskFault);
     }
     let trial = Trial {
-        failing_disk_calls: &[9],
+        failing_disk_calls: &[FRESH_CALLS + 13],
         ..Trial::of(TWO_PUTS)
     };
     let mut output = Bytes::of(
@@ -78,6 +79,18 @@ fn disk_calls_that_fail(rt: HostRuntime) -> Result<(), Fail> {
     output.append(rt.alloc(), b"\n")?;
     trial.expect(&rt, output.as_slice(), &Status::Done);
     Ok(())
+}
+
+// No line is read where the format or the opening fails.
+#[test]
+fn calls_of_the_format_and_the_opening_that_fail(rt: HostRuntime) {
+    for call in 1..FRESH_CALLS + 1 {
+        let trial = Trial {
+            failing_disk_calls: &[call],
+            ..Trial::of(TWO_PUTS)
+        };
+        trial.expect(&rt, b"disk fault\n", &Status::DiskFault);
+    }
 }
 
 // Where an allocation of the run fails, the answers so far stay, and no other stands in their place.

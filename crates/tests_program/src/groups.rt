@@ -1,7 +1,7 @@
 // Groups: which requests a lead takes, in which order, and what it writes. Data page 0 is page 1029.
 
 use crate::pages::expect_page;
-use crate::trial::{Trial, talk};
+use crate::trial::{FRESH_CALLS, Trial, expect_calls, talk};
 use blob_script::Status;
 use std::test::Fail;
 
@@ -26,7 +26,7 @@ fn three_requests_in_one_group(rt: HostRuntime) {
             ("lead", "idle"),
         ],
     );
-    assert_eq!(rt; ended.disk.calls(), (0, 3, 1));
+    expect_calls(&rt, &ended, (0, 6, 2));
     expect_page(&rt, &mut ended, 1029, b"a");
     expect_page(&rt, &mut ended, 1030, b"b");
     expect_page(&rt, &mut ended, 1031, b"c");
@@ -128,7 +128,7 @@ fn sixteen_sessions_in_one_group(rt: HostRuntime) {
             ("lead", "idle"),
         ],
     );
-    assert_eq!(rt; ended.disk.calls(), (0, 16, 1));
+    expect_calls(&rt, &ended, (0, 19, 2));
     expect_page(&rt, &mut ended, 1029, b"a");
     expect_page(&rt, &mut ended, 1044, b"p");
 }
@@ -150,7 +150,7 @@ fn a_group_ends_before_a_put_of_a_changed_key(rt: HostRuntime) {
             ("lead", "idle"),
         ],
     );
-    assert_eq!(rt; ended.disk.calls(), (0, 3, 2));
+    expect_calls(&rt, &ended, (0, 9, 4));
     expect_page(&rt, &mut ended, 1029, b"a");
     expect_page(&rt, &mut ended, 1030, b"b");
     expect_page(&rt, &mut ended, 1031, b"c");
@@ -187,7 +187,7 @@ fn a_group_ends_before_a_read_of_a_changed_key(rt: HostRuntime) {
             ("lead;0 begin;0 get demo/b", "idle;0 begun;0 absent"),
         ],
     );
-    assert_eq!(rt; ended.disk.calls(), (1, 2, 2));
+    expect_calls(&rt, &ended, (1, 8, 4));
 }
 
 #[test]
@@ -208,7 +208,7 @@ fn a_group_ends_before_a_change_of_a_deleted_key(rt: HostRuntime) {
             ("lead", "1 committed 3"),
         ],
     );
-    assert_eq!(rt; ended.disk.calls(), (0, 2, 3));
+    expect_calls(&rt, &ended, (0, 11, 6));
 }
 
 // To delete what the transaction itself had put is a change, also where the store has no such key.
@@ -275,7 +275,7 @@ fn a_group_goes_on_behind_a_refused_member(rt: HostRuntime) {
             ("lead", "0 conflict demo/a 1 2;1 committed 3"),
         ],
     );
-    assert_eq!(rt; ended.disk.calls(), (1, 3, 3));
+    expect_calls(&rt, &ended, (1, 12, 6));
     expect_page(&rt, &mut ended, 1029, b"d");
     expect_page(&rt, &mut ended, 1030, b"c");
     expect_page(&rt, &mut ended, 1031, b"");
@@ -302,7 +302,7 @@ fn a_refused_member_takes_no_place_and_no_number(rt: HostRuntime) {
             ),
         ],
     );
-    assert_eq!(rt; ended.disk.calls(), (1, 1, 1));
+    expect_calls(&rt, &ended, (1, 4, 2));
     expect_page(&rt, &mut ended, 1029, b"c");
     expect_page(&rt, &mut ended, 1030, b"");
 }
@@ -329,7 +329,7 @@ fn a_place_that_is_replaced_isnt_taken_in_the_same_group(rt: HostRuntime) {
             ),
         ],
     );
-    assert_eq!(rt; ended.disk.calls(), (0, 4, 3));
+    expect_calls(&rt, &ended, (0, 13, 6));
     expect_page(&rt, &mut ended, 1029, b"d");
     expect_page(&rt, &mut ended, 1030, b"b");
     expect_page(&rt, &mut ended, 1031, b"c");
@@ -362,7 +362,7 @@ fn a_place_that_is_deleted_isnt_taken_in_the_same_group(rt: HostRuntime) {
     expect_page(&rt, &mut ended, 1031, b"");
 }
 
-// A delete writes no page.
+// A delete writes no page of the data area.
 #[test]
 fn a_place_that_is_deleted_is_free_for_others(rt: HostRuntime) {
     let mut ended = talk(
@@ -383,7 +383,7 @@ fn a_place_that_is_deleted_is_free_for_others(rt: HostRuntime) {
             ),
         ],
     );
-    assert_eq!(rt; ended.disk.calls(), (1, 2, 3));
+    expect_calls(&rt, &ended, (1, 11, 6));
     expect_page(&rt, &mut ended, 1029, b"b");
     expect_page(&rt, &mut ended, 1030, b"");
 }
@@ -408,24 +408,25 @@ fn a_group_without_a_committed_member_makes_no_sync(rt: HostRuntime) {
             ("lead", "idle"),
         ],
     );
-    assert_eq!(rt; ended.disk.calls(), (0, 1, 1));
+    expect_calls(&rt, &ended, (0, 4, 2));
 }
 
-// A group of two writes each content on a page and syncs. Whichever of these calls fails, neither member is answered.
+// A group of two writes its frame, the next gate, two contents and its gate, with a sync before the contents and one behind the
+// gate. Whichever of these calls fails, neither member is answered.
 #[test]
 fn a_disk_that_fails_under_a_group(rt: HostRuntime) -> Result<(), Fail> {
     let script =
         b"0 begin\n0 put demo/a x:61\n0 commit\n1 begin\n1 put demo/b x:62\n1 commit\nlead\n";
     let front = b"0 begun\n0 put\n0 queued\n1 begun\n1 put\n1 queued\ndisk fault\n".as_slice();
-    for call in 1..4 {
+    for call in 1..8 {
         let trial = Trial {
-            failing_disk_calls: &[call],
+            failing_disk_calls: &[FRESH_CALLS + call],
             ..Trial::of(script)
         };
         trial.expect(&rt, front, &Status::DiskFault);
     }
     let trial = Trial {
-        failing_disk_calls: &[4],
+        failing_disk_calls: &[FRESH_CALLS + 8],
         ..Trial::of(script)
     };
     let output =

@@ -8,7 +8,13 @@ mod faults;
 #[cfg(test)]
 mod groups;
 #[cfg(test)]
+mod lasting;
+#[cfg(test)]
+mod orders;
+#[cfg(test)]
 mod pages;
+#[cfg(test)]
+mod recorded;
 #[cfg(test)]
 mod refusals;
 #[cfg(test)]
@@ -17,6 +23,8 @@ mod reports;
 mod scripts;
 #[cfg(test)]
 mod sessions;
+#[cfg(test)]
+mod stops;
 #[cfg(test)]
 mod trial;
 #[cfg(test)]

@@ -1,7 +1,8 @@
-// What a run leaves on the disk. Places are worked out by hand: for each extent, and then the tail, the least free
+// What a run leaves on the data pages of the disk, and how many calls its script takes: each lead that commits writes a page of
+// its frame, the next gate, the contents and its gate, and syncs twice. Places are worked out by hand: for each extent, and then the tail, the least free
 // multiple of its pages.
 
-use crate::trial::{Ended, FIRST, Trial, append_made, made_page};
+use crate::trial::{Ended, FIRST, Trial, append_made, expect_calls, made_page};
 use blob_base::{Bytes, PAGE_BYTES};
 use blob_script::Status;
 use disk_model::{Disk, MemDisk};
@@ -42,7 +43,7 @@ fn expect_made<R: Abort>(
 fn a_content_stands_on_the_first_data_page(rt: HostRuntime) -> Result<(), Fail> {
     let mut ended = Trial::of(FIRST).run(rt.alloc())?;
     // The get reads the page once, and the stat doesn't.
-    assert_eq!(rt; ended.disk.calls(), (1, 1, 1));
+    expect_calls(&rt, &ended, (1, 4, 2));
     expect_page(&rt, &mut ended, 1028, b"");
     expect_page(&rt, &mut ended, 1029, b"abc");
     expect_page(&rt, &mut ended, 1030, b"");
@@ -57,7 +58,7 @@ fn contents_stand_in_key_order_and_later_ones_where_it_is_free(
     let script =
         b"0 begin\n0 put a/b x:6262\n0 put a/a x:61\n0 commit\nlead\n0 begin\n0 put a/a x:63\n0 commit\nlead\n0 begin\n0 put a/c x:64\n0 commit\nlead\n";
     let mut ended = Trial::of(script).run(rt.alloc())?;
-    assert_eq!(rt; ended.disk.calls(), (0, 4, 3));
+    expect_calls(&rt, &ended, (0, 13, 6));
     expect_page(&rt, &mut ended, 1029, b"d");
     expect_page(&rt, &mut ended, 1030, b"bb");
     expect_page(&rt, &mut ended, 1031, b"c");
@@ -70,7 +71,7 @@ fn an_empty_content_takes_no_page(rt: HostRuntime) -> Result<(), Fail> {
     let script =
         b"0 begin\n0 put a/a x:61\n0 put a/b x:\n0 put a/c x:63\n0 commit\nlead\n0 begin\n0 get a/b\n0 get a/c\n";
     let mut ended = Trial::of(script).run(rt.alloc())?;
-    assert_eq!(rt; ended.disk.calls(), (1, 2, 1));
+    expect_calls(&rt, &ended, (1, 5, 2));
     expect_page(&rt, &mut ended, 1029, b"a");
     expect_page(&rt, &mut ended, 1030, b"c");
     expect_page(&rt, &mut ended, 1031, b"");
@@ -103,7 +104,7 @@ fn full_pages_and_a_tail(rt: HostRuntime) -> Result<(), Fail> {
         ),
     ] {
         let mut ended = Trial::of(script).run(rt.alloc())?;
-        assert_eq!(rt; ended.disk.calls(), (0, pages, 1));
+        expect_calls(&rt, &ended, (0, pages + 3, 2));
         for number in 0..6 {
             let count = PAGE_BYTES.min(usize::saturating_sub(size, PAGE_BYTES * number));
             expect_made(&rt, &mut ended, number as u32, 0, number, count);
@@ -123,7 +124,7 @@ fn every_data_page_is_taken(rt: HostRuntime) -> Result<(), Fail> {
         b"0 begun\n0 put\n0 queued\n0 committed 1\n0 begun\n0 put\n0 queued\n0 committed 2\n0 begun\n0 put\n0 queued\n0 no-space demo/c 0\n0 begun\n0 put\n0 queued\n0 committed 3\n",
         &Status::Done,
     );
-    assert_eq!(rt; ended.disk.calls(), (0, 1024, 3));
+    expect_calls(&rt, &ended, (0, 1033, 6));
     expect_made(&rt, &mut ended, 27, 0, 27, 4096);
     expect_made(&rt, &mut ended, 28, 0, 0, 4096);
     expect_made(&rt, &mut ended, 31, 0, 3, 1);
@@ -145,7 +146,7 @@ fn a_photograph(rt: HostRuntime) -> Result<(), Fail> {
     output.append(rt.alloc(), b"\n")?;
     let mut ended = Trial::of(script).run(rt.alloc())?;
     ended.expect(&rt, output.as_slice(), &Status::Done);
-    assert_eq!(rt; ended.disk.calls(), (733, 733, 1));
+    expect_calls(&rt, &ended, (733, 736, 2));
     for (data_page, number, count) in [
         (0, 0, 4096),
         (27, 27, 4096),
@@ -175,7 +176,7 @@ fn replaced_places_come_free_after_the_lead(rt: HostRuntime) -> Result<(), Fail>
         b"0 begun\n0 put\n0 queued\n0 committed 1\n0 begun\n0 put\n0 queued\n0 no-space demo/a 1\n0 begun\n0 put\n0 queued\n0 committed 2\n0 begun\n0 put\n0 queued\n0 committed 3\n",
         &Status::Done,
     );
-    assert_eq!(rt; ended.disk.calls(), (0, 2041, 3));
+    expect_calls(&rt, &ended, (0, 2050, 6));
     expect_made(&rt, &mut ended, 0, 2, 0, 4096);
     expect_made(&rt, &mut ended, 27, 2, 27, 4096);
     expect_page(&rt, &mut ended, 1057, b"a");
@@ -195,7 +196,7 @@ fn a_request_without_a_place_changes_nothing(rt: HostRuntime) -> Result<(), Fail
         b"0 begun\n0 put\n0 queued\n0 committed 1\n0 begun\n0 put\n0 put\n0 queued\n0 no-space demo/b 8\n0 begun\n0 value 1 61\n0 absent\n0 put\n0 queued\n0 committed 2\n",
         &Status::Done,
     );
-    assert_eq!(rt; ended.disk.calls(), (1, 2, 2));
+    expect_calls(&rt, &ended, (1, 8, 4));
     expect_page(&rt, &mut ended, 1029, b"a");
     expect_page(&rt, &mut ended, 1030, b"c");
     expect_page(&rt, &mut ended, 1031, b"");
@@ -213,7 +214,7 @@ fn a_request_without_room_changes_nothing(rt: HostRuntime) -> Result<(), Fail> {
         b"0 begun\n0 put\n0 put\n0 put\n0 put\n0 put\n0 put\n0 put\n0 put\n0 queued\n0 no-room 4120 4096\n0 begun\n0 absent\n0 put\n0 queued\n0 committed 1\n",
         &Status::Done,
     );
-    assert_eq!(rt; ended.disk.calls(), (0, 1, 1));
+    expect_calls(&rt, &ended, (0, 4, 2));
     expect_page(&rt, &mut ended, 1029, b"a");
     expect_page(&rt, &mut ended, 1030, b"");
     Ok(())

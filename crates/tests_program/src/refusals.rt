@@ -1,6 +1,6 @@
 // Refusals, of calls and of requests, and which comes first where several apply.
 
-use crate::trial::talk;
+use crate::trial::{expect_calls, talk};
 
 const SIXTEEN_PUTS: &str =
     "0 put demo/k00 x:;0 put demo/k01 x:;0 put demo/k02 x:;0 put demo/k03 x:;0 put demo/k04 x:;0 put demo/k05 x:;0 put demo/k06 x:;0 put demo/k07 x:;0 put demo/k08 x:;0 put demo/k09 x:;0 put demo/k10 x:;0 put demo/k11 x:;0 put demo/k12 x:;0 put demo/k13 x:;0 put demo/k14 x:;0 put demo/k15 x:";
@@ -227,7 +227,7 @@ fn a_conflict_of_two_that_read_and_change_one_key(rt: HostRuntime) {
             ("lead", "idle"),
         ],
     );
-    assert_eq!(rt; ended.disk.calls(), (2, 2, 2));
+    expect_calls(&rt, &ended, (2, 8, 4));
 }
 
 // Of the keys that were read and changed since it is the least, whichever was read first.
@@ -302,7 +302,7 @@ fn no_space_for_one_of_two_members(rt: HostRuntime) {
             ),
         ],
     );
-    assert_eq!(rt; ended.disk.calls(), (0, 1024, 2));
+    expect_calls(&rt, &ended, (0, 1030, 4));
 }
 
 // The first key in order, though demo/d was put first, and the first block of it: an extent of one page before that of
@@ -358,7 +358,7 @@ fn no_room_for_one_of_three_members(rt: HostRuntime) {
             ),
         ],
     );
-    assert_eq!(rt; ended.disk.calls(), (1, 197, 1));
+    expect_calls(&rt, &ended, (1, 200, 2));
 }
 
 // A member that makes the states shrink leaves the others of its group no room, and the next group has it.

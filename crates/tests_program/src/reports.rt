@@ -1,40 +1,25 @@
 // The forms that format a store, show it and check it. Pages and their bytes are those of the format, written by hand; each disk
 // has the smallest layout, where the log area of half 0 begins at page 3 and the data area at page 1029.
 
-use crate::trial::{Ended, Trial};
-use blob_base::{Bytes64, Key, PAGE_BYTES, StoreRefusal};
+use crate::trial::{Trial, new_disk, run_words, value_of, write_page};
+use blob_base::{Key, StoreRefusal};
 use blob_script::Status;
-use disk_model::{Disk, MemDisk, Page};
+use disk_model::MemDisk;
 use std::process::Abort;
-use std::test::Fail;
 
-// The line of a content `abc` of `demo/a`, which the first entry wrote.
-const SHOWN: &[u8] =
+/// What is shown of a store with the content `abc` of `demo/a`, which the first entry wrote.
+pub(crate) const SHOWN: &[u8] =
     b"demo/a 3 ba7816bf8f01cfea414140de5dae2223b00361a396177a9cb410ff61f20015ad 1\nlast 1\n";
 
-// The values that are kept and computed of `abc` where its page has zeros.
-const KEPT: &str = "ba7816bf8f01cfea414140de5dae2223b00361a396177a9cb410ff61f20015ad";
+/// The value that is kept of `abc`.
+pub(crate) const KEPT: &str = "ba7816bf8f01cfea414140de5dae2223b00361a396177a9cb410ff61f20015ad";
 
-const OF_ZEROS: &str = "709e80c88487a2411e1ee4dfb9f22a861492d20c4765150c0c794abd70f8147c";
+/// The value that is computed of `abc` where its page has zeros.
+pub(crate) const OF_ZEROS: &str =
+    "709e80c88487a2411e1ee4dfb9f22a861492d20c4765150c0c794abd70f8147c";
 
-// A page that begins with these bytes, and has zeros behind them.
-fn page_of<R: Abort>(rt: &R, bytes: &[u8]) -> Page {
-    let mut page = [0; PAGE_BYTES];
-    assert!(rt; bytes.len() <= PAGE_BYTES);
-    page[..bytes.len()].copy_from_slice(bytes);
-    page
-}
-
-// The value that 64 digits spell.
-fn value_of<R: Abort>(rt: &R, digits: &str) -> [u8; 32] {
-    let mut value = [0; 32];
-    let read = hex::decode_to_slice(digits, &mut value);
-    assert!(rt; read.is_ok());
-    value
-}
-
-// The body of one entry, number 1, that sets `demo/a` to the content `abc` on data page 0.
-fn one_set<R: Abort>(rt: &R) -> Page {
+/// The body of one entry, number 1, of session 0 and its first transaction, that sets `demo/a` to the content `abc` on data page 0.
+pub(crate) fn one_set<R: Abort>(rt: &R) -> [u8; 119] {
     let mut body = [0; 119];
     let read = hex::decode_to_slice(
         "424c4f4246524d31\
@@ -54,76 +39,56 @@ fn one_set<R: Abort>(rt: &R) -> Page {
         &mut body,
     );
     assert!(rt; read.is_ok());
-    page_of(rt, &body)
+    body
 }
 
-// A disk of zeros, of the smallest store's size.
-fn new_disk<R: Abort + AllocGlobal>(rt: &R) -> MemDisk {
-    MemDisk::new(rt.alloc(), 2053, Bytes64::new(rt.alloc())).expect(rt, "memory")
-}
-
-// Runs words over a disk, with nothing to read.
-fn run<R: Abort + AllocGlobal>(rt: &R, words: &str, disk: MemDisk) -> Ended<MemDisk> {
-    let trial = Trial {
-        words,
-        ..Trial::of(b"")
-    };
-    trial.run_on(rt.alloc(), disk).expect(rt, "memory")
-}
-
-// A disk that has been formatted.
-fn formatted<R: Abort + AllocGlobal>(rt: &R) -> MemDisk {
-    let ended = run(rt, "format s 1 1", new_disk(rt));
+/// A disk that has been formatted.
+pub(crate) fn formatted<R: Abort + AllocGlobal>(rt: &R) -> MemDisk {
+    let ended = run_words(rt, "format s 1 1", new_disk(rt));
     ended.expect(rt, b"formatted 2053\n", &Status::Done);
     ended.disk
-}
-
-// Writes a page.
-fn put<R: Abort>(rt: &R, disk: &mut MemDisk, page: u32, bytes: &Page) {
-    assert!(rt; page < disk.pages());
-    assert!(rt; disk.write(page, bytes) == Ok(()));
 }
 
 // A formatted disk with a body behind its open first gate, and this text on data page 0.
 fn with_body<R: Abort + AllocGlobal>(rt: &R, text: &[u8]) -> MemDisk {
     let mut disk = formatted(rt);
-    put(rt, &mut disk, 4, &one_set(rt));
-    put(rt, &mut disk, 3, &page_of(rt, b"GATEOPEN"));
-    put(rt, &mut disk, 1029, &page_of(rt, text));
+    write_page(rt, &mut disk, 4, &one_set(rt));
+    write_page(rt, &mut disk, 3, b"GATEOPEN");
+    write_page(rt, &mut disk, 1029, text);
     disk
 }
 
 #[test]
 fn a_formatted_store_is_empty(rt: HostRuntime) {
-    let shown = run(&rt, "show s", formatted(&rt));
+    let shown = run_words(&rt, "show s", formatted(&rt));
     shown.expect(&rt, b"last 0\n", &Status::Done);
-    let checked = run(&rt, "check s", shown.disk);
+    let checked = run_words(&rt, "check s", shown.disk);
     checked.expect(&rt, b"checked 0 damaged 0\n", &Status::Done);
 }
 
 #[test]
 fn an_entry_of_the_log_is_shown_where_its_content_stands(rt: HostRuntime) {
-    let shown = run(&rt, "show s", with_body(&rt, b"abc"));
+    let shown = run_words(&rt, "show s", with_body(&rt, b"abc"));
     shown.expect(&rt, SHOWN, &Status::Done);
-    let again = run(&rt, "show s", shown.disk);
+    let again = run_words(&rt, "show s", shown.disk);
     again.expect(&rt, SHOWN, &Status::Done);
-    let checked = run(&rt, "check s", again.disk);
+    let checked = run_words(&rt, "check s", again.disk);
     checked.expect(&rt, b"checked 1 damaged 0\n", &Status::Done);
 }
 
 #[test]
 fn an_entry_of_the_log_is_dropped_where_its_content_is_missing(rt: HostRuntime) {
-    let shown = run(&rt, "show s", with_body(&rt, b""));
+    let shown = run_words(&rt, "show s", with_body(&rt, b""));
     shown.expect(&rt, b"last 1\n", &Status::Done);
 }
 
 // The report of the damage stands in place of a closing line.
 #[test]
 fn a_content_that_was_lost_later_is_damaged(rt: HostRuntime) {
-    let shown = run(&rt, "show s", with_body(&rt, b"abc"));
+    let shown = run_words(&rt, "show s", with_body(&rt, b"abc"));
     let mut disk = shown.disk;
-    put(&rt, &mut disk, 1029, &[0; PAGE_BYTES]);
-    let checked = run(&rt, "check s", disk);
+    write_page(&rt, &mut disk, 1029, b"");
+    let checked = run_words(&rt, "check s", disk);
     let key = Key::read(b"demo/a").expect(&rt, "a key");
     checked.expect(
         &rt,
@@ -135,14 +100,14 @@ fn a_content_that_was_lost_later_is_damaged(rt: HostRuntime) {
             got: value_of(&rt, OF_ZEROS),
         },
     );
-    let shown = run(&rt, "show s", checked.disk);
+    let shown = run_words(&rt, "show s", checked.disk);
     shown.expect(&rt, SHOWN, &Status::Done);
 }
 
 #[test]
 fn a_disk_that_is_no_store(rt: HostRuntime) {
     for words in ["show s", "check s"] {
-        let ended = run(&rt, words, new_disk(&rt));
+        let ended = run_words(&rt, words, new_disk(&rt));
         ended.expect(
             &rt,
             b"store refused: bad-half 0 0\n",

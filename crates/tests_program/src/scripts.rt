@@ -24,6 +24,7 @@ fn answers_of_well_formed_scripts(rt: HostRuntime) {
         ("", ""),
         ("0 begin", "0 begun\n"),
         ("lead\n", "idle\n"),
+        ("checkpoint\n", "checkpointed\n"),
         ("0 get demo/a\n", "0 no-transaction\n"),
         ("0 stat demo/a\n", "0 no-transaction\n"),
         ("0 put demo/a x:00\n", "0 no-transaction\n"),
@@ -112,6 +113,7 @@ fn lines_that_are_malformed(rt: HostRuntime) {
         "lead now",
         "Lead",
         "0 checkpoint",
+        "checkpoint now",
         "0 stat",
         "0 stat demo",
         "0 stat demo/a x:",
@@ -156,7 +158,6 @@ fn lines_that_are_not_built(rt: HostRuntime) {
         "0 ls /",
         "0 pread 255 4294967295 65536",
         "0 close 0",
-        "checkpoint",
     ] {
         let status = Status::NotBuilt { line: 1 };
         expect_last(&rt, line, b"not built line 1\n", &status);
@@ -188,7 +189,7 @@ fn the_first_line_of_another_end_ends_the_script(rt: HostRuntime) {
             Status::Malformed { line: 5 },
         ),
         (
-            "\n0 begin\n\ncheckpoint\n",
+            "\n0 begin\n\n0 ls /\n",
             "0 begun\nnot built line 4\n",
             Status::NotBuilt { line: 4 },
         ),

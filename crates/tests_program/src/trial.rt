@@ -5,17 +5,24 @@ ghost use Rattle.std.specs.Prelude.{◌<◌, ◌≤◌};
 use blob_base::{Bytes, Bytes64, OutOfMemory, PAGE_BYTES, Word};
 use blob_script::Status;
 use blob_steps::run_alone;
-use disk_model::{Disk, MemDisk, Page};
+use disk_model::{Disk, MemDisk, Page, filled};
 use io_ends::{MemSink, MemSource};
 use std::alloc::Global;
 use std::process::Abort;
 
-/// A script whose lines all succeed, and what it is answered.
+/// A script whose lines all succeed.
 pub(crate) const FIRST: &[u8] =
     b"0 begin\n0 put demo/a x:616263\n0 commit\nlead\n0 begin\n0 get demo/a\n0 stat demo/a\n";
 
+/// What it is answered.
 pub(crate) const FIRST_OUTPUT: &[u8] =
     b"0 begun\n0 put\n0 queued\n0 committed 1\n0 begun\n0 value 3 616263\n0 stat 3 ba7816bf8f01cfea414140de5dae2223b00361a396177a9cb410ff61f20015ad\n";
+
+/// Lines of a session that puts the content `abc`, which is number 1, and what they are answered.
+pub(crate) const ONE_PUT: (&str, &str) = (
+    "0 begin;0 put demo/a x:616263;0 commit;lead",
+    "0 begun;0 put;0 queued;0 committed 1",
+);
 
 /// A run: its words, parted by one blank each, its script, how many bytes a read gives, the calls that fail, and how many pages the disk has.
 #[derive(Clone, Copy)]
@@ -113,6 +120,18 @@ pub(crate) fn expect<R: Abort + AllocGlobal>(rt: &R, script: &str, output: &str,
     Trial::of(script.as_bytes()).expect(rt, output.as_bytes(), status);
 }
 
+/// How many calls `fresh s 1 1` takes before the first line of its script. The format writes the header of half 0, its first gate
+/// and, behind a sync, the selector, and syncs. The opening syncs, reads the selector, the header and the first gate, and turns to
+/// half 1: the header, the first gate, a sync, the selector and a sync.
+pub(crate) const FRESH_CALLS: u64 = 14;
+
+/// Compares the reads, writes and syncs that the script of a `fresh s 1 1` took, behind those of the format and the opening.
+pub(crate) fn expect_calls<R: Abort>(rt: &R, ended: &Ended<MemDisk>, script: (u64, u64, u64)) {
+    let (reads, writes, syncs) = ended.disk.calls();
+    assert!(rt; reads >= 3 && writes >= 6 && syncs >= 5);
+    assert_eq!(rt; (reads - 3, writes - 6, syncs - 5), script);
+}
+
 // Adds lines that are parted by `;`, each with its end. No lines are the empty text.
 fn append_lines(alloc: Global, out: &mut Bytes, lines: &str) -> Result<(), OutOfMemory> {
     if lines.is_empty() {
@@ -125,18 +144,62 @@ fn append_lines(alloc: Global, out: &mut Bytes, lines: &str) -> Result<(), OutOf
     Ok(())
 }
 
+/// A disk of zeros that takes the smallest store, at which nothing fails.
+pub(crate) fn new_disk<R: Abort + AllocGlobal>(rt: &R) -> MemDisk {
+    MemDisk::new(rt.alloc(), 2053, Bytes64::new(rt.alloc())).expect(rt, "memory")
+}
+
+/// Runs words over a disk, with nothing to read.
+pub(crate) fn run_words<R: Abort + AllocGlobal>(
+    rt: &R,
+    words: &str,
+    disk: MemDisk,
+) -> Ended<MemDisk> {
+    let trial = Trial {
+        words,
+        ..Trial::of(b"")
+    };
+    trial.run_on(rt.alloc(), disk).expect(rt, "memory")
+}
+
+/// Writes a page that begins with these bytes, and has zeros behind them.
+pub(crate) fn write_page<R: Abort>(rt: &R, disk: &mut MemDisk, page: u32, front: &[u8]) {
+    assert!(rt; page < disk.pages());
+    assert!(rt; front.len() <= PAGE_BYTES);
+    assert!(rt; disk.write(page, &filled(front)) == Ok(()));
+}
+
+/// The value that 64 digits spell.
+pub(crate) fn value_of<R: Abort>(rt: &R, digits: &str) -> [u8; 32] {
+    let mut value = [0; 32];
+    assert!(rt; hex::decode_to_slice(digits, &mut value).is_ok());
+    value
+}
+
 /// Runs a script in the smallest store, where nothing fails, to its end, and compares its answers. Each pair has lines of
 /// the script, parted by `;`, and what they are answered.
 pub(crate) fn talk<R: Abort + AllocGlobal>(rt: &R, parts: &[(&str, &str)]) -> Ended<MemDisk> {
+    talk_on(rt, "fresh s 1 1", new_disk(rt), parts)
+}
+
+/// Runs words over this disk, with a script whose lines all succeed, and compares its answers.
+pub(crate) fn talk_on<R: Abort + AllocGlobal, D: Disk + Drop>(
+    rt: &R,
+    words: &str,
+    disk: D,
+    parts: &[(&str, &str)],
+) -> Ended<D> {
     let mut script = Bytes::new(rt.alloc());
     let mut output = Bytes::new(rt.alloc());
     for (asked, answered) in parts {
         append_lines(rt.alloc(), &mut script, asked).expect(rt, "memory");
         append_lines(rt.alloc(), &mut output, answered).expect(rt, "memory");
     }
-    let ended = Trial::of(script.as_slice())
-        .run(rt.alloc())
-        .expect(rt, "memory");
+    let trial = Trial {
+        words,
+        ..Trial::of(script.as_slice())
+    };
+    let ended = trial.run_on(rt.alloc(), disk).expect(rt, "memory");
     ended.expect(rt, output.as_slice(), &Status::Done);
     ended
 }

@@ -31,7 +31,10 @@ fn words_that_are_no_form(rt: HostRuntime) {
         "check s 1",
         "Check s",
         "steps",
-        "steps s",
+        "steps ",
+        "steps s 1",
+        "steps s 1 1",
+        "Steps s",
     ] {
         let trial = Trial {
             words,
@@ -39,6 +42,7 @@ fn words_that_are_no_form(rt: HostRuntime) {
         };
         trial.expect(&rt, b"usage\n", &Status::Usage);
     }
+    assert_eq!(rt; Status::Usage.code(), 8);
 }
 
 #[test]

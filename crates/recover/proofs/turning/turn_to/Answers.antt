@@ -1,9 +1,11 @@
-use Rattle.std.proofs.Common.{◌≡◌, inl, inr, ap, ◌∙◌}
+use Rattle.std.proofs.Common.{◌≡◌, ℕ, List, inl, inr, refl, ap, ◌∙◌, arith}
 use Rattle.std.proofs.lemmas.Result.{on_ok_weaker}
 use Rattle.disk_model.proofs.DiskLaws.{OnlyWrites-more, OnlyWrites-reads, OnlyWrites-wider}
 use Rattle.check_point.specs.Writers.{IsOfHalf}
 use Rattle.store_model.specs.Disk.{Image}
 use Rattle.store_model.specs.Half.{picked}
+use Rattle.store_model.specs.Layout.{log_page}
+use Rattle.store_model.specs.Log.{at_log, is_open}
 use Rattle.recover.specs.Turns.{IsTurnPage}
 use Rattle.recover.proofs.Turned.{Reads-turned}
 use Rattle.recover.proofs.turning.turn_to.Goals as goal
@@ -31,4 +33,24 @@ returns-clause-reads g c tells states half had stood apart =
     (λ p other. ap (λ (image : Image). image p) stayed ∙ (c.flip.ensures.wrote.wrote tells).reads p other ∙ ap (λ (image : Image). image p) synced)
     (ap (λ (image : Image). picked (image 0)) stayed ∙ c.in_ok-flip.ensures.picked tells ∙ c.requires.half)
     apart)
+    (c.sync-2.ensures.settled tells)
+
+pub returns-clause-turned : goal.returns-clause-turned
+returns-clause-turned g c tells =
+    let disk = g.D.Disk in
+    let writer = c.args.writer in
+    let ended : Image = (disk.story c.finish.new.disk).reads in
+    let now : Image = (disk.story c.sync-2.new.self).reads in
+    let synced : (disk.story c.sync.new.self).reads ≡ ended = (c.sync.ensures.images tells).reads in
+    let stayed : now ≡ (disk.story c.flip.new.disk).reads = (c.sync-2.ensures.images tells).reads in
+    let first : now (at_log writer.half 0) ≡ ended (log_page writer.half) =
+    ap now (omega arith) ∙ ap (λ (image : Image). image (log_page writer.half)) stayed
+    ∙ (c.flip.ensures.wrote.wrote tells).reads (log_page writer.half) (λ zero. omega (arith, zero))
+    ∙ ap (λ (image : Image). image (log_page writer.half)) synced in
+    on_ok_weaker c.sync-2.result
+    (λ settled. record {
+      settled = settled;
+      picks = ap (λ (image : Image). picked (image 0)) stayed ∙ c.in_ok-flip.ensures.picked tells ∙ c.requires.half;
+      closed = ap (λ (page : List ℕ). is_open page) (first ∙ c.in_ok-finish.ensures.gate tells) ∙ refl;
+    })
     (c.sync-2.ensures.settled tells)

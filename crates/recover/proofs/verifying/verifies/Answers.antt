@@ -1,5 +1,6 @@
 use Rattle.std.proofs.Common.{◌≡◌, subst, sym}
 use Rattle.disk_model.proofs.DiskLaws.{OnlyReads-then}
+use Rattle.extent_io.proofs.Stills.{Reads-then}
 use Rattle.frame_codec.specs.Values.{model_write}
 use Rattle.store_model.specs.Disk.{Image}
 use Rattle.store_model.specs.Frame.{IsWrite}
@@ -33,4 +34,5 @@ verified-preserved g c =
           (subst (λ (pages : Image). DoesWriteVerify pages c.args.layout (model_write c.get.result.now)) same
           (c.in_ok-does_verify.ensures.verifies tells c.if-not-does_verify.false)),
       OnlyReads-then disk c.args.disk.now c.verified.disk c.write_verifies.new.disk c.verified.invariant.1 c.write_verifies.ensures.only,
+      λ tells. Reads-then (disk.calls c.args.disk.now) (disk.calls c.verified.disk) (disk.calls c.write_verifies.new.disk) (c.verified.invariant.2 tells) (c.write_verifies.ensures.still tells),
     )

@@ -1,12 +1,16 @@
-use Rattle.std.proofs.Common.{◌≡◌, ◌==◌, ◌<◌, ℕ, List, ◌++◌, length, false, true, refl, sym, ◌∙◌, ap, arith}
+use Rattle.std.proofs.Common.{◌≡◌, ◌==◌, ◌<◌, ℕ, List, ◌++◌, length, false, true, refl, sym, ◌∙◌, ap, arith, subst}
 use Rattle.std.proofs.lemmas.Bool.Decides.{nat_tests}
 use Rattle.std.proofs.lemmas.List.{nil_from_length}
-use Rattle.blob_store.specs.Stores.{ledger_in}
+use Rattle.disk_model.specs.Disks.{Keeps}
+use Rattle.group_plan.specs.Plans.{members_of}
+use Rattle.vault.specs.Leads.{ledger_in}
+use Rattle.vault.specs.declared.vault.Vault.{Vault}
+use Rattle.blob_steps.specs.Steps.{Replying, replies_text}
 use Rattle.store_model.specs.Answer as answer
 use Rattle.store_model.specs.Answer.{answer_text}
 use Rattle.store_model.specs.Group.{no_tally}
 use Rattle.blob_steps.specs.declared.world.World.{World}
-use Rattle.blob_steps.proofs.Leading.{HasLed, came-led, group_members, lead-none, led-begun, led-sound, replies-count, replies-few, stands-led}
+use Rattle.blob_steps.proofs.Leading.{AreOf-some, HasLed, came-led, few-requests, group_members, lead-keeps, lead-none, led-begun, led-sound, length-some_members, replies-count, session-below, sessions-below, some_members}
 use Rattle.blob_steps.proofs.Members.{AreOf-members}
 use Rattle.blob_steps.proofs.world.World.lead.Goals as goal
 
@@ -14,60 +18,68 @@ pub returns-then-is_empty-clause-came : goal.returns-then-is_empty-clause-came
 returns-then-is_empty-clause-came g c = λ world is.
     let mine = c.args.self.now in
     let empty : (length mine.queue == 0) ≡ true = sym c.is_empty.ensures ∙ c.if-is_empty.true in
-    lead-none g.D.Disk mine world c.print.new.out c.args.disk.now is (nil_from_length mine.queue (grind (arith, nat_tests, empty)))
+    lead-none g.D.Disk mine world c.print.new.out is (nil_from_length mine.queue (grind (arith, nat_tests, empty)))
     (c.in_ok-print.ensures ∙ ap (λ (front : List ℕ). front ++ answer_text answer.Idle) c.requires.none)
 
-pub reply_all-requires-clause-few : goal.reply_all-requires-clause-few
-reply_all-requires-clause-few g c =
+pub lead-requires-clause-few : goal.lead-requires-clause-few
+lead-requires-clause-few g c =
     let sound = c.requires.sound in
-    replies-few (ledger_in c.args.self.now.store) c.args.self.now.queue c.in_ok-replies.replies (c.in_ok-replies.ensures.led sound.some.0.store sound.some.1.store).replies_are
+    few-requests c.args.self.now.queue sound.distinct (λ i request there. session-below g.D.Disk c.args.self.now sound i request there)
+
+pub reply_all-requires-clause-sessions : goal.reply_all-requires-clause-sessions
+reply_all-requires-clause-sessions g c = sessions-below g.D.Disk c.args.self.now c.in_ok-numbers.numbers c.requires.sound c.in_ok-numbers.ensures
 
 pub returns-clause-came : goal.returns-clause-came
 returns-clause-came g c = λ world is.
     let mine = c.args.self.now in
-    let middle : World = record { store = c.lead.new.self; sessions = mine.sessions; queue = mine.queue } in
+    let middle : World _ = record { vault = c.lead.new.self; sessions = mine.sessions; queue = c.lead.new.queue } in
+    let new = c.reply_all.new.self in
     let replies = c.in_ok-replies.replies in
     let led = c.in_ok-replies.ensures.led world.store is.store in
     let filled : (length mine.queue == 0) ≡ false = sym c.is_empty.ensures ∙ c.if-is_empty.false in
     let some : 0 < length mine.queue = grind (arith, nat_tests, filled) in
-    came-led g.D.Disk mine middle c.reply_all.new.self replies c.args.disk.now c.lead.new.disk c.requires.sound world is led (length replies) c.reply_all.new.text
+    came-led g.D.Disk mine middle new replies world is led (length replies) c.reply_all.new.text
     (record {
       sound = c.requires.sound;
       sessions = refl;
-      queue = refl;
-      layout = c.lead.ensures.layout;
-      store = c.in_ok-replies.ensures.sound;
-      are = AreOf-members (ledger_in mine.store) (no_tally (ledger_in mine.store)) mine.queue;
-      count = replies-count replies (group_members g.D.Disk mine middle c.reply_all.new.self replies c.args.disk.now c.lead.new.disk c.requires.sound) led.replies_are;
-      replied = c.in_ok-reply_all.ensures.replied;
-    }) some c.in_ok-reply_all.ensures.text
+      queue = c.in_ok-replies.ensures.left;
+      layout = c.in_ok-replies.ensures.layout;
+      vault = c.in_ok-replies.ensures.keeps;
+      unshut = c.in_ok-replies.ensures.ok;
+      are = AreOf-members (ledger_in mine.vault.memory) (no_tally (ledger_in mine.vault.memory)) mine.queue;
+      count = replies-count replies (group_members g.D.Disk mine middle new replies) led.replies_are;
+      replied = subst (λ (ns : List ℕ). Replying (length replies) ns middle new) c.in_ok-numbers.ensures c.in_ok-reply_all.ensures.replied;
+    }) some (c.in_ok-reply_all.ensures.text ∙ ap (λ (ns : List ℕ). replies_text ns replies) c.in_ok-numbers.ensures)
 
 pub returns-clause-stepped : goal.returns-clause-stepped
 returns-clause-stepped g c =
     let mine = c.args.self.now in
-    let middle : World = record { store = c.lead.new.self; sessions = mine.sessions; queue = mine.queue } in
+    let middle : World _ = record { vault = c.lead.new.self; sessions = mine.sessions; queue = c.lead.new.queue } in
+    let new = c.reply_all.new.self in
     let replies = c.in_ok-replies.replies in
-    let world = c.requires.sound.some.0 in
-    let is = c.requires.sound.some.1 in
-    let led = c.in_ok-replies.ensures.led world.store is.store in
-    let members = group_members g.D.Disk mine middle c.reply_all.new.self replies c.args.disk.now c.lead.new.disk c.requires.sound in
-    let done : HasLed mine middle c.reply_all.new.self members (length replies) = record {
+    let ledger = ledger_in mine.vault.memory in
+    let members = some_members ledger (length replies) mine.queue in
+    let done : HasLed g.D.Disk mine middle new members (length replies) = record {
       sound = c.requires.sound;
       sessions = refl;
-      queue = refl;
-      layout = c.lead.ensures.layout;
-      store = c.in_ok-replies.ensures.sound;
-      are = AreOf-members (ledger_in mine.store) (no_tally (ledger_in mine.store)) mine.queue;
-      count = replies-count replies members led.replies_are;
-      replied = c.in_ok-reply_all.ensures.replied;
+      queue = c.in_ok-replies.ensures.left;
+      layout = c.in_ok-replies.ensures.layout;
+      vault = c.in_ok-replies.ensures.keeps;
+      unshut = c.in_ok-replies.ensures.ok;
+      are = AreOf-some ledger (length replies) mine.queue;
+      count = length-some_members ledger (length replies) mine.queue c.in_ok-replies.ensures.few;
+      replied = subst (λ (ns : List ℕ). Replying (length replies) ns middle new) c.in_ok-numbers.ensures c.in_ok-reply_all.ensures.replied;
     } in
+    let sound = led-sound g.D.Disk mine middle new members (length replies) done in
     record {
-      sound = led-sound mine middle c.reply_all.new.self members (length replies) done _
-          (stands-led g.D.Disk mine middle c.reply_all.new.self replies c.args.disk.now c.lead.new.disk c.requires.sound world is led (length replies) done);
-      begun = led-begun mine middle c.reply_all.new.self members (length replies) done;
-      layout = ap (λ s. s.layout) c.reply_all.ensures.store ∙ c.lead.ensures.layout;
-      keeps = c.lead.ensures.keeps;
+      sound = sound;
+      vault = sound.vault;
+      begun = led-begun g.D.Disk mine middle new members (length replies) done;
+      layout = ap (λ (v : Vault _). v.memory.layout) c.in_ok-reply_all.ensures.vault ∙ c.in_ok-replies.ensures.layout;
+      keeps = subst (λ (v : Vault _). Keeps g.D.Disk mine.vault.disk v.disk) (sym c.in_ok-reply_all.ensures.vault)
+          (lead-keeps g.D.Disk mine.vault.memory mine.queue (members_of ledger mine.queue) mine.vault.disk c.lead.new.self.disk c.in_ok-replies.ensures.wrote);
       raised = tt;
+      among = tt;
       damage = λ world is. tt;
       whole = λ told world is stand. tt;
     }

@@ -4,22 +4,25 @@ use Rattle.blob_script.specs.Answers.{model_line}
 use Rattle.blob_script.specs.declared.answer.AnswerLine.{AnswerLine}
 use Rattle.disk_model.proofs.DiskLaws.{Keeps-none}
 use Rattle.std.specs.FinMap.{get}
-use Rattle.blob_store.specs.Looks.{show_of}
+use Rattle.blob_steps.specs.Looks.{show_of}
 use Rattle.store_model.specs.Answer as answer
 use Rattle.store_model.specs.World.{transaction_of}
 use Rattle.txn.specs.Txns.{own_bytes}
 use Rattle.store_model.specs.Answer.{answer_text}
-use Rattle.blob_steps.proofs.Looking.{came-line, came-own, came-stored, look-moves}
-use Rattle.blob_steps.proofs.world.World.look.Goals.{in-Line, in-Stored+in_ok-line-in-Stored}
+use Rattle.blob_steps.proofs.Looking.{WasLooked, came-as, came-line, came-own, came-stored, look-moves, look-stepped, same-looked, shown-among}
 use Rattle.blob_steps.specs.declared.world.World.{World}
+use Rattle.blob_steps.specs.Sessions.{look_action}
+use Rattle.store_model.specs.Play.{transact}
+use Rattle.vault.specs.declared.memory.Memory.{Memory}
+use Rattle.blob_steps.proofs.world.World.look.Goals.{in-Line, in-Stored+in_ok-line-in-Stored}
 use Rattle.blob_steps.proofs.world.World.look.Goals as goal
 
 pub returns-in-Own-clause-came : goal.returns-in-Own-clause-came
 returns-in-Own-clause-came g c = λ world is.
     let mine = c.args.self.now in
-    let new : World = record { store = mine.store; sessions = c.find.new.sessions; queue = mine.queue } in
-    came-own mine new c.args.session c.args.key.now c.in_ok-line.field-0 c.requires.sound refl refl c.in_ok-line.ensures g.D.Disk c.args.look world is
-    c.show_own.new.text c.args.disk.now c.args.disk.now c.in-Own.is refl
+    let new : World _ = record { vault = mine.vault; sessions = c.find.new.sessions; queue = mine.queue } in
+    came-own g.D.Disk mine new c.args.session c.args.key.now c.in_ok-line.field-0 c.requires.sound (same-looked g.D.Disk mine new c.requires.sound refl refl)
+    c.in_ok-line.ensures c.args.look world is c.show_own.new.text c.in-Own.is refl
     (λ later stands put. c.in_ok-show_own-in-Own.ensures later stands put
     ∙ ap (λ (front : List ℕ). front ++ answer_text (answer.Session c.args.session
     (show_of c.args.look (Some (own_bytes (get (transaction_of (later.sessions c.args.session).stage).changes c.args.key.now)))) None)) c.requires.none)
@@ -27,14 +30,17 @@ returns-in-Own-clause-came g c = λ world is.
 pub returns-in-Own-clause-stepped : goal.returns-in-Own-clause-stepped
 returns-in-Own-clause-stepped g c =
     let mine = c.args.self.now in
-    let new : World = record { store = mine.store; sessions = c.find.new.sessions; queue = mine.queue } in
-    let moves = look-moves mine new c.args.session c.args.key.now c.in_ok-line.field-0 c.requires.sound refl refl c.in_ok-line.ensures c.args.look in
+    let new : World _ = record { vault = mine.vault; sessions = c.find.new.sessions; queue = mine.queue } in
+    let moves = look-moves g.D.Disk mine new c.args.session c.args.key.now c.in_ok-line.field-0 c.requires.sound (same-looked g.D.Disk mine new c.requires.sound refl refl)
+    c.in_ok-line.ensures c.args.look in
     record {
       sound = moves.sound;
+      vault = moves.sound.vault;
       begun = moves.begun;
       layout = refl;
-      keeps = Keeps-none g.D.Disk c.args.disk.now;
+      keeps = Keeps-none g.D.Disk mine.vault.disk;
       raised = tt;
+      among = tt;
       damage = λ world is. tt;
       whole = λ told world is stand. tt;
     }
@@ -46,10 +52,12 @@ returns-in_err-line-in-Stored-clause-stepped g c =
     rw (p.1, p.2)
     (record {
       sound = tt;
+      vault = shown.keeps;
       begun = λ n have. tt;
-      layout = refl;
+      layout = ap (λ (m : Memory). m.layout) shown.memory;
       keeps = shown.only_reads.keeps;
       raised = shown.raised;
+      among = shown-among c.args.self.now.vault.memory.relation.states c.args.key.now c.in_err-line-in-Stored.field-0.0 shown.damaged;
       damage = λ world is. shown.damage world.store.objects is.store.objects;
       whole = λ told world is stand. shown.whole told world.store.objects is.store.objects stand;
     })
@@ -57,34 +65,37 @@ returns-in_err-line-in-Stored-clause-stepped g c =
 pub returns-clause-came : goal.returns-clause-came
 returns-clause-came g c = λ world is.
     let mine = c.args.self.now in
-    let new : World = record { store = mine.store; sessions = c.find.new.sessions; queue = mine.queue } in
     let text = c.in_ok-answer.ensures ∙ ap (λ (front : List ℕ). front ++ answer_text (answer.Session c.args.session (model_line c.match-branch-2.line) None)) c.requires.none in
     elim c.match-branch-2.branch [
       | in-Line w ↦
-          came-line mine new c.args.session c.args.key.now c.in_ok-line.field-0 c.requires.sound refl refl c.in_ok-line.ensures g.D.Disk c.args.look world is
-          c.answer.new.text w.in-Line.line c.args.disk.now c.match-branch-2.disk w.in-Line.is w.disk-is
-          (text ∙ ap (λ (l : AnswerLine). answer_text (answer.Session c.args.session (model_line l) None)) w.line-is)
+          (let new : World _ = record { vault = mine.vault; sessions = c.find.new.sessions; queue = mine.queue } in
+          came-as g.D.Disk world (transact world c.args.session (look_action c.args.look c.args.key.now)) c.answer.new.text mine new c.match-branch-2.self w.self-is
+          (came-line g.D.Disk mine new c.args.session c.args.key.now c.in_ok-line.field-0 c.requires.sound (same-looked g.D.Disk mine new c.requires.sound refl refl)
+          c.in_ok-line.ensures c.args.look world is c.answer.new.text w.in-Line.line w.in-Line.is refl
+          (text ∙ ap (λ (l : AnswerLine). answer_text (answer.Session c.args.session (model_line l) None)) w.line-is)))
       | in-Stored+in_ok-line-in-Stored w ↦
-          (let shown = w.in_ok-line-in-Stored.ensures in
-          came-stored mine new c.args.session c.args.key.now c.in_ok-line.field-0 c.requires.sound refl refl c.in_ok-line.ensures g.D.Disk c.args.look world is
-          c.answer.new.text w.show.result w.in_ok-line-in-Stored.line c.args.disk.now c.match-branch-2.disk w.in_ok-line-in-Stored.was w.in-Stored.is (rw w.disk-is shown.only_reads) (rw w.disk-is shown.reads) w.show.ensures.line
-          (text ∙ ap (λ (l : AnswerLine). answer_text (answer.Session c.args.session (model_line l) None)) w.line-is))
+          (let new : World _ = record { vault = w.show.new.vault; sessions = c.find.new.sessions; queue = mine.queue } in
+          let shown = w.in_ok-line-in-Stored.ensures in
+          let left : WasLooked g.D.Disk mine new = record { memory = shown.memory; kept = shown.keeps; shut = shown.shut; queue = refl } in
+          came-as g.D.Disk world (transact world c.args.session (look_action c.args.look c.args.key.now)) c.answer.new.text mine new c.match-branch-2.self w.self-is
+          (came-stored g.D.Disk mine new c.args.session c.args.key.now c.in_ok-line.field-0 c.requires.sound left
+          c.in_ok-line.ensures c.args.look world is c.answer.new.text w.show.result w.in_ok-line-in-Stored.line w.in_ok-line-in-Stored.was w.in-Stored.is
+          shown.only_reads shown.reads w.show.ensures.line
+          (text ∙ ap (λ (l : AnswerLine). answer_text (answer.Session c.args.session (model_line l) None)) w.line-is)))
     ]
 
 pub returns-clause-stepped : goal.returns-clause-stepped
 returns-clause-stepped g c =
     let mine = c.args.self.now in
-    let new : World = record { store = mine.store; sessions = c.find.new.sessions; queue = mine.queue } in
-    let moves = look-moves mine new c.args.session c.args.key.now c.in_ok-line.field-0 c.requires.sound refl refl c.in_ok-line.ensures c.args.look in
-    record {
-      sound = moves.sound;
-      begun = moves.begun;
-      layout = refl;
-      keeps = elim c.match-branch-2.branch [
-        | in-Line w ↦ rw w.disk-is (Keeps-none g.D.Disk c.args.disk.now)
-        | in-Stored+in_ok-line-in-Stored w ↦ rw w.disk-is w.in_ok-line-in-Stored.ensures.only_reads.keeps
-      ];
-      raised = tt;
-      damage = λ world is. tt;
-      whole = λ told world is stand. tt;
-    }
+    elim c.match-branch-2.branch [
+      | in-Line w ↦
+          (let new : World _ = record { vault = mine.vault; sessions = c.find.new.sessions; queue = mine.queue } in
+          look-stepped g.D.Disk mine new c.args.session c.args.key.now c.in_ok-line.field-0 c.requires.sound (same-looked g.D.Disk mine new c.requires.sound refl refl)
+          c.in_ok-line.ensures c.args.look c.match-branch-2.self tt w.self-is (Keeps-none g.D.Disk mine.vault.disk))
+      | in-Stored+in_ok-line-in-Stored w ↦
+          (let new : World _ = record { vault = w.show.new.vault; sessions = c.find.new.sessions; queue = mine.queue } in
+          let shown = w.in_ok-line-in-Stored.ensures in
+          let left : WasLooked g.D.Disk mine new = record { memory = shown.memory; kept = shown.keeps; shut = shown.shut; queue = refl } in
+          look-stepped g.D.Disk mine new c.args.session c.args.key.now c.in_ok-line.field-0 c.requires.sound left
+          c.in_ok-line.ensures c.args.look c.match-branch-2.self tt w.self-is shown.only_reads.keeps)
+    ]

@@ -1,8 +1,8 @@
 use Rattle.std.proofs.Common.{arith, sym, ◌∙◌, ap}
 use Rattle.std.specs.FinMap.{get}
 use Rattle.std.specs.Prelude.{Some}
-use Rattle.blob_store.specs.Looks.{show_of}
-use Rattle.blob_store.specs.declared.look.Look.{Look}
+use Rattle.blob_steps.specs.Looks.{show_of}
+use Rattle.blob_steps.specs.declared.look.Look.{Look}
 use Rattle.store_model.specs.Answer as answer
 use Rattle.store_model.specs.Turn as turn
 use Rattle.store_model.specs.World.{transaction_of}
@@ -12,7 +12,7 @@ use Rattle.blob_steps.proofs.Turning.{get-at}
 use Rattle.blob_steps.proofs.world.World.show_own.Goals as goal
 
 pub returns-in-Get : goal.returns-in-Get
-returns-in-Get c = λ world is put.
+returns-in-Get g c = λ world is put.
     let one = c.index-one.result.now in
     let there = get-at c.args.self.now.sessions.items c.args.session one one (omega (arith, c.requires.sixteen, c.requires.session)) c.index-one.ensures in
     let theirs = world.sessions c.args.session in
@@ -23,7 +23,7 @@ returns-in-Get c = λ world is put.
     ∙ ap (λ (l : Look). show_of l (Some (own_bytes (get (transaction_of theirs.stage).changes c.args.key.now)))) (sym c.in-Get.is)) c.print_value.ensures
 
 pub returns-in-Some : goal.returns-in-Some
-returns-in-Some c = λ world is put.
+returns-in-Some g c = λ world is put.
     let one = c.index-one.result.now in
     let there = get-at c.args.self.now.sessions.items c.args.session one one (omega (arith, c.requires.sixteen, c.requires.session)) c.index-one.ensures in
     let theirs = world.sessions c.args.session in
@@ -34,7 +34,7 @@ returns-in-Some c = λ world is put.
     ∙ ap (λ (l : Look). show_of l (Some (own_bytes (get (transaction_of theirs.stage).changes c.args.key.now)))) (sym c.in-Stat.is)) c.answer.ensures
 
 pub returns-in-None : goal.returns-in-None
-returns-in-None c = λ world is put.
+returns-in-None g c = λ world is put.
     let one = c.index-one.result.now in
     let there = get-at c.args.self.now.sessions.items c.args.session one one (omega (arith, c.requires.sixteen, c.requires.session)) c.index-one.ensures in
     absurd (none-printed c.print.result put.0 put.2.0 c.args.key.now c.in-None.is

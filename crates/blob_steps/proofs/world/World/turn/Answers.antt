@@ -11,14 +11,14 @@ use Rattle.store_model.specs.Turn as turn
 use Rattle.blob_script.specs.declared.answer.AnswerLine.{AnswerLine}
 use Rattle.blob_steps.specs.Steps.{TakesTurn}
 use Rattle.blob_steps.specs.declared.world.Played.TheVariants.{Answered}
-use Rattle.blob_steps.proofs.Answering.{Stepped-err, ok-is, turn-plays, turn-stepped}
+use Rattle.blob_steps.proofs.Answering.{Stepped-err, ok-is, turn-failed, turn-plays, turn-stepped}
 use Rattle.blob_steps.proofs.world.World.turn.Goals.{in-Begin, in-Commit+in_ok-line-in-Commit, in-Abort, in-Put+in_ok-line-in-Put+in-Hex-1, in-Put+in_ok-line-in-Put+in-Made-1, in-Del+in_ok-line-in-Del}
 use Rattle.blob_steps.proofs.world.World.turn.Goals as goal
 
 pub returns-in_err-look-in-Get-clause-stepped : goal.returns-in_err-look-in-Get-clause-stepped
 returns-in_err-look-in-Get-clause-stepped g c =
     let p = err_from_is_err_and c.from_residual-in_err-look-in-Get.result c.from_residual-in_err-look-in-Get.ensures.1 in
-    Stepped-err g.D.Disk c.args.disk.now c.look.new.disk c.args.self.now c.look.new.self c.look.result c.from_residual-in_err-look-in-Get.result c.in_err-look-in-Get.field-0.0
+    Stepped-err g.D.Disk c.args.self.now c.look.new.self c.look.result c.from_residual-in_err-look-in-Get.result c.in_err-look-in-Get.field-0.0
     c.in_err-look-in-Get.was (p.1 ∙ ap Err p.2) c.look.ensures.stepped
 
 pub returns-in-Get-clause-play : goal.returns-in-Get-clause-play
@@ -28,7 +28,7 @@ returns-in-Get-clause-play g c = λ world is.
 pub returns-in_err-look-in-Stat-clause-stepped : goal.returns-in_err-look-in-Stat-clause-stepped
 returns-in_err-look-in-Stat-clause-stepped g c =
     let p = err_from_is_err_and c.from_residual-in_err-look-in-Stat.result c.from_residual-in_err-look-in-Stat.ensures.1 in
-    Stepped-err g.D.Disk c.args.disk.now c.look-in-Stat.new.disk c.args.self.now c.look-in-Stat.new.self c.look-in-Stat.result c.from_residual-in_err-look-in-Stat.result c.in_err-look-in-Stat.field-0.0
+    Stepped-err g.D.Disk c.args.self.now c.look-in-Stat.new.self c.look-in-Stat.result c.from_residual-in_err-look-in-Stat.result c.in_err-look-in-Stat.field-0.0
     c.in_err-look-in-Stat.was (p.1 ∙ ap Err p.2) c.look-in-Stat.ensures.stepped
 
 pub returns-in-Stat-clause-play : goal.returns-in-Stat-clause-play
@@ -41,23 +41,23 @@ returns-clause-play g c = λ world is.
     let text = c.in_ok-answer.ensures ∙ ap (λ (front : List ℕ). front ++ answer_text (answer.Session c.args.session (model_line c.match-action.line) None)) c.requires.none in
     elim c.match-action.branch [
       | in-Begin w ↦
-          turn-plays g.D.Disk mine w.begin-line.new.self c.match-action.self c.args.session turn.Begin (model_action c.args.action) w.begin-line.result c.match-action.line c.answer.new.text c.args.disk.now world is
+          turn-plays g.D.Disk mine w.begin-line.new.self c.match-action.self c.args.session turn.Begin (model_action c.args.action) w.begin-line.result c.match-action.line c.answer.new.text world is
           w.begin-line.ensures w.self-is w.line-is (ap (λ (a : Action). model_action a) w.in-Begin.is) refl text
       | in-Commit+in_ok-line-in-Commit w ↦
-          turn-plays g.D.Disk mine w.commit.new.self c.match-action.self c.args.session turn.Commit (model_action c.args.action) w.in_ok-line-in-Commit.line c.match-action.line c.answer.new.text c.args.disk.now world is
-          (ok-is (λ (l : AnswerLine). TakesTurn mine w.commit.new.self c.args.session turn.Commit (model_line l)) w.commit.result w.in_ok-line-in-Commit.line w.in_ok-line-in-Commit.was w.commit.ensures.turn) w.self-is w.line-is (ap (λ (a : Action). model_action a) w.in-Commit.is) refl text
+          turn-plays g.D.Disk mine w.commit.new.self c.match-action.self c.args.session turn.Commit (model_action c.args.action) w.in_ok-line-in-Commit.line c.match-action.line c.answer.new.text world is
+          (ok-is (λ (l : AnswerLine). TakesTurn g.D.Disk mine w.commit.new.self c.args.session turn.Commit (model_line l)) w.commit.result w.in_ok-line-in-Commit.line w.in_ok-line-in-Commit.was w.commit.ensures.turn) w.self-is w.line-is (ap (λ (a : Action). model_action a) w.in-Commit.is) refl text
       | in-Abort w ↦
-          turn-plays g.D.Disk mine w.abort-line.new.self c.match-action.self c.args.session turn.Abort (model_action c.args.action) w.abort-line.result c.match-action.line c.answer.new.text c.args.disk.now world is
+          turn-plays g.D.Disk mine w.abort-line.new.self c.match-action.self c.args.session turn.Abort (model_action c.args.action) w.abort-line.result c.match-action.line c.answer.new.text world is
           w.abort-line.ensures w.self-is w.line-is (ap (λ (a : Action). model_action a) w.in-Abort.is) refl text
       | in-Put+in_ok-line-in-Put+in-Hex-1 w ↦
-          turn-plays g.D.Disk mine w.put.new.self c.match-action.self c.args.session (turn.Put w.in-Put.key (content_bytes w.in-Put.content)) (model_action c.args.action) w.in_ok-line-in-Put.line c.match-action.line c.answer.new.text c.args.disk.now world is
-          (ok-is (λ (l : AnswerLine). TakesTurn mine w.put.new.self c.args.session (turn.Put w.in-Put.key (content_bytes w.in-Put.content)) (model_line l)) w.put.result w.in_ok-line-in-Put.line w.in_ok-line-in-Put.was w.put.ensures.turn) w.self-is w.line-is (ap (λ (a : Action). model_action a) w.in-Put.is) refl text
+          turn-plays g.D.Disk mine w.put.new.self c.match-action.self c.args.session (turn.Put w.in-Put.key (content_bytes w.in-Put.content)) (model_action c.args.action) w.in_ok-line-in-Put.line c.match-action.line c.answer.new.text world is
+          (ok-is (λ (l : AnswerLine). TakesTurn g.D.Disk mine w.put.new.self c.args.session (turn.Put w.in-Put.key (content_bytes w.in-Put.content)) (model_line l)) w.put.result w.in_ok-line-in-Put.line w.in_ok-line-in-Put.was w.put.ensures.turn) w.self-is w.line-is (ap (λ (a : Action). model_action a) w.in-Put.is) refl text
       | in-Put+in_ok-line-in-Put+in-Made-1 w ↦
-          turn-plays g.D.Disk mine w.put.new.self c.match-action.self c.args.session (turn.Put w.in-Put.key (content_bytes w.in-Put.content)) (model_action c.args.action) w.in_ok-line-in-Put.line c.match-action.line c.answer.new.text c.args.disk.now world is
-          (ok-is (λ (l : AnswerLine). TakesTurn mine w.put.new.self c.args.session (turn.Put w.in-Put.key (content_bytes w.in-Put.content)) (model_line l)) w.put.result w.in_ok-line-in-Put.line w.in_ok-line-in-Put.was w.put.ensures.turn) w.self-is w.line-is (ap (λ (a : Action). model_action a) w.in-Put.is) refl text
+          turn-plays g.D.Disk mine w.put.new.self c.match-action.self c.args.session (turn.Put w.in-Put.key (content_bytes w.in-Put.content)) (model_action c.args.action) w.in_ok-line-in-Put.line c.match-action.line c.answer.new.text world is
+          (ok-is (λ (l : AnswerLine). TakesTurn g.D.Disk mine w.put.new.self c.args.session (turn.Put w.in-Put.key (content_bytes w.in-Put.content)) (model_line l)) w.put.result w.in_ok-line-in-Put.line w.in_ok-line-in-Put.was w.put.ensures.turn) w.self-is w.line-is (ap (λ (a : Action). model_action a) w.in-Put.is) refl text
       | in-Del+in_ok-line-in-Del w ↦
-          turn-plays g.D.Disk mine w.del.new.self c.match-action.self c.args.session (turn.Delete w.in-Del.key) (model_action c.args.action) w.in_ok-line-in-Del.line c.match-action.line c.answer.new.text c.args.disk.now world is
-          (ok-is (λ (l : AnswerLine). TakesTurn mine w.del.new.self c.args.session (turn.Delete w.in-Del.key) (model_line l)) w.del.result w.in_ok-line-in-Del.line w.in_ok-line-in-Del.was w.del.ensures.turn) w.self-is w.line-is (ap (λ (a : Action). model_action a) w.in-Del.is) refl text
+          turn-plays g.D.Disk mine w.del.new.self c.match-action.self c.args.session (turn.Delete w.in-Del.key) (model_action c.args.action) w.in_ok-line-in-Del.line c.match-action.line c.answer.new.text world is
+          (ok-is (λ (l : AnswerLine). TakesTurn g.D.Disk mine w.del.new.self c.args.session (turn.Delete w.in-Del.key) (model_line l)) w.del.result w.in_ok-line-in-Del.line w.in_ok-line-in-Del.was w.del.ensures.turn) w.self-is w.line-is (ap (λ (a : Action). model_action a) w.in-Del.is) refl text
     ]
 
 pub returns-clause-stepped : goal.returns-clause-stepped
@@ -65,21 +65,65 @@ returns-clause-stepped g c =
     let mine = c.args.self.now in
     elim c.match-action.branch [
       | in-Begin w ↦
-          turn-stepped g.D.Disk mine w.begin-line.new.self c.match-action.self c.args.session turn.Begin (model_line w.begin-line.result) c.args.disk.now Answered
+          turn-stepped g.D.Disk mine w.begin-line.new.self c.match-action.self c.args.session turn.Begin (model_line w.begin-line.result) Answered
           w.begin-line.ensures w.self-is
       | in-Commit+in_ok-line-in-Commit w ↦
-          turn-stepped g.D.Disk mine w.commit.new.self c.match-action.self c.args.session turn.Commit (model_line w.in_ok-line-in-Commit.line) c.args.disk.now Answered
-          (ok-is (λ (l : AnswerLine). TakesTurn mine w.commit.new.self c.args.session turn.Commit (model_line l)) w.commit.result w.in_ok-line-in-Commit.line w.in_ok-line-in-Commit.was w.commit.ensures.turn) w.self-is
+          turn-stepped g.D.Disk mine w.commit.new.self c.match-action.self c.args.session turn.Commit (model_line w.in_ok-line-in-Commit.line) Answered
+          (ok-is (λ (l : AnswerLine). TakesTurn g.D.Disk mine w.commit.new.self c.args.session turn.Commit (model_line l)) w.commit.result w.in_ok-line-in-Commit.line w.in_ok-line-in-Commit.was w.commit.ensures.turn) w.self-is
       | in-Abort w ↦
-          turn-stepped g.D.Disk mine w.abort-line.new.self c.match-action.self c.args.session turn.Abort (model_line w.abort-line.result) c.args.disk.now Answered
+          turn-stepped g.D.Disk mine w.abort-line.new.self c.match-action.self c.args.session turn.Abort (model_line w.abort-line.result) Answered
           w.abort-line.ensures w.self-is
       | in-Put+in_ok-line-in-Put+in-Hex-1 w ↦
-          turn-stepped g.D.Disk mine w.put.new.self c.match-action.self c.args.session (turn.Put w.in-Put.key (content_bytes w.in-Put.content)) (model_line w.in_ok-line-in-Put.line) c.args.disk.now Answered
-          (ok-is (λ (l : AnswerLine). TakesTurn mine w.put.new.self c.args.session (turn.Put w.in-Put.key (content_bytes w.in-Put.content)) (model_line l)) w.put.result w.in_ok-line-in-Put.line w.in_ok-line-in-Put.was w.put.ensures.turn) w.self-is
+          turn-stepped g.D.Disk mine w.put.new.self c.match-action.self c.args.session (turn.Put w.in-Put.key (content_bytes w.in-Put.content)) (model_line w.in_ok-line-in-Put.line) Answered
+          (ok-is (λ (l : AnswerLine). TakesTurn g.D.Disk mine w.put.new.self c.args.session (turn.Put w.in-Put.key (content_bytes w.in-Put.content)) (model_line l)) w.put.result w.in_ok-line-in-Put.line w.in_ok-line-in-Put.was w.put.ensures.turn) w.self-is
       | in-Put+in_ok-line-in-Put+in-Made-1 w ↦
-          turn-stepped g.D.Disk mine w.put.new.self c.match-action.self c.args.session (turn.Put w.in-Put.key (content_bytes w.in-Put.content)) (model_line w.in_ok-line-in-Put.line) c.args.disk.now Answered
-          (ok-is (λ (l : AnswerLine). TakesTurn mine w.put.new.self c.args.session (turn.Put w.in-Put.key (content_bytes w.in-Put.content)) (model_line l)) w.put.result w.in_ok-line-in-Put.line w.in_ok-line-in-Put.was w.put.ensures.turn) w.self-is
+          turn-stepped g.D.Disk mine w.put.new.self c.match-action.self c.args.session (turn.Put w.in-Put.key (content_bytes w.in-Put.content)) (model_line w.in_ok-line-in-Put.line) Answered
+          (ok-is (λ (l : AnswerLine). TakesTurn g.D.Disk mine w.put.new.self c.args.session (turn.Put w.in-Put.key (content_bytes w.in-Put.content)) (model_line l)) w.put.result w.in_ok-line-in-Put.line w.in_ok-line-in-Put.was w.put.ensures.turn) w.self-is
       | in-Del+in_ok-line-in-Del w ↦
-          turn-stepped g.D.Disk mine w.del.new.self c.match-action.self c.args.session (turn.Delete w.in-Del.key) (model_line w.in_ok-line-in-Del.line) c.args.disk.now Answered
-          (ok-is (λ (l : AnswerLine). TakesTurn mine w.del.new.self c.args.session (turn.Delete w.in-Del.key) (model_line l)) w.del.result w.in_ok-line-in-Del.line w.in_ok-line-in-Del.was w.del.ensures.turn) w.self-is
+          turn-stepped g.D.Disk mine w.del.new.self c.match-action.self c.args.session (turn.Delete w.in-Del.key) (model_line w.in_ok-line-in-Del.line) Answered
+          (ok-is (λ (l : AnswerLine). TakesTurn g.D.Disk mine w.del.new.self c.args.session (turn.Delete w.in-Del.key) (model_line l)) w.del.result w.in_ok-line-in-Del.line w.in_ok-line-in-Del.was w.del.ensures.turn) w.self-is
+    ]
+
+pub returns-in-Get-clause-always : goal.returns-in-Get-clause-always
+returns-in-Get-clause-always g c = λ layout world.
+    (transact world c.args.session (turn.Get c.in-Get.key), ap (λ (a : Action). action_play world c.args.session (model_action a)) c.in-Get.is)
+
+pub returns-in-Stat-clause-always : goal.returns-in-Stat-clause-always
+returns-in-Stat-clause-always g c = λ layout world.
+    (transact world c.args.session (turn.Stat c.in-Stat.key), ap (λ (a : Action). action_play world c.args.session (model_action a)) c.in-Stat.is)
+
+pub returns-in_err-answer-clause-stepped : goal.returns-in_err-answer-clause-stepped
+returns-in_err-answer-clause-stepped g c =
+    let mine = c.args.self.now in
+    let p = err_from_is_err_and c.from_residual-in_err-answer.result c.from_residual-in_err-answer.ensures.1 in
+    elim c.match-action.branch [
+      | in-Begin w ↦
+          turn-failed g.D.Disk mine w.begin-line.new.self c.match-action.self c.args.session turn.Begin (model_line w.begin-line.result) c.from_residual-in_err-answer.result
+          w.begin-line.ensures w.self-is (p.1 ∙ ap Err p.2)
+      | in-Commit+in_ok-line-in-Commit w ↦
+          turn-failed g.D.Disk mine w.commit.new.self c.match-action.self c.args.session turn.Commit (model_line w.in_ok-line-in-Commit.line) c.from_residual-in_err-answer.result
+          (ok-is (λ (l : AnswerLine). TakesTurn g.D.Disk mine w.commit.new.self c.args.session turn.Commit (model_line l)) w.commit.result w.in_ok-line-in-Commit.line w.in_ok-line-in-Commit.was w.commit.ensures.turn) w.self-is (p.1 ∙ ap Err p.2)
+      | in-Abort w ↦
+          turn-failed g.D.Disk mine w.abort-line.new.self c.match-action.self c.args.session turn.Abort (model_line w.abort-line.result) c.from_residual-in_err-answer.result
+          w.abort-line.ensures w.self-is (p.1 ∙ ap Err p.2)
+      | in-Put+in_ok-line-in-Put+in-Hex-1 w ↦
+          turn-failed g.D.Disk mine w.put.new.self c.match-action.self c.args.session (turn.Put w.in-Put.key (content_bytes w.in-Put.content)) (model_line w.in_ok-line-in-Put.line) c.from_residual-in_err-answer.result
+          (ok-is (λ (l : AnswerLine). TakesTurn g.D.Disk mine w.put.new.self c.args.session (turn.Put w.in-Put.key (content_bytes w.in-Put.content)) (model_line l)) w.put.result w.in_ok-line-in-Put.line w.in_ok-line-in-Put.was w.put.ensures.turn) w.self-is (p.1 ∙ ap Err p.2)
+      | in-Put+in_ok-line-in-Put+in-Made-1 w ↦
+          turn-failed g.D.Disk mine w.put.new.self c.match-action.self c.args.session (turn.Put w.in-Put.key (content_bytes w.in-Put.content)) (model_line w.in_ok-line-in-Put.line) c.from_residual-in_err-answer.result
+          (ok-is (λ (l : AnswerLine). TakesTurn g.D.Disk mine w.put.new.self c.args.session (turn.Put w.in-Put.key (content_bytes w.in-Put.content)) (model_line l)) w.put.result w.in_ok-line-in-Put.line w.in_ok-line-in-Put.was w.put.ensures.turn) w.self-is (p.1 ∙ ap Err p.2)
+      | in-Del+in_ok-line-in-Del w ↦
+          turn-failed g.D.Disk mine w.del.new.self c.match-action.self c.args.session (turn.Delete w.in-Del.key) (model_line w.in_ok-line-in-Del.line) c.from_residual-in_err-answer.result
+          (ok-is (λ (l : AnswerLine). TakesTurn g.D.Disk mine w.del.new.self c.args.session (turn.Delete w.in-Del.key) (model_line l)) w.del.result w.in_ok-line-in-Del.line w.in_ok-line-in-Del.was w.del.ensures.turn) w.self-is (p.1 ∙ ap Err p.2)
+    ]
+
+pub returns-clause-always : goal.returns-clause-always
+returns-clause-always g c = λ layout world.
+    elim c.match-action.branch [
+      | in-Begin w ↦ (transact world c.args.session turn.Begin, ap (λ (a : Action). action_play world c.args.session (model_action a)) w.in-Begin.is)
+      | in-Commit+in_ok-line-in-Commit w ↦ (transact world c.args.session turn.Commit, ap (λ (a : Action). action_play world c.args.session (model_action a)) w.in-Commit.is)
+      | in-Abort w ↦ (transact world c.args.session turn.Abort, ap (λ (a : Action). action_play world c.args.session (model_action a)) w.in-Abort.is)
+      | in-Put+in_ok-line-in-Put+in-Hex-1 w ↦ (transact world c.args.session (turn.Put w.in-Put.key (content_bytes w.in-Put.content)), ap (λ (a : Action). action_play world c.args.session (model_action a)) w.in-Put.is)
+      | in-Put+in_ok-line-in-Put+in-Made-1 w ↦ (transact world c.args.session (turn.Put w.in-Put.key (content_bytes w.in-Put.content)), ap (λ (a : Action). action_play world c.args.session (model_action a)) w.in-Put.is)
+      | in-Del+in_ok-line-in-Del w ↦ (transact world c.args.session (turn.Delete w.in-Del.key), ap (λ (a : Action). action_play world c.args.session (model_action a)) w.in-Del.is)
     ]

@@ -2,6 +2,7 @@ use Rattle.std.proofs.Common.{◌≡◌, ℕ, ◌+◌, ◌∙◌, Bool, List, []
 use Rattle.std.specs.Prelude.{◌==◌, ◌&&◌}
 use Rattle.std.proofs.lemmas.List.{drop_all}
 use Rattle.disk_model.proofs.DiskLaws.{OnlyReads-then}
+use Rattle.extent_io.proofs.Stills.{Reads-then}
 use Rattle.meta_log.specs.Reads.{stored, stored_body}
 use Rattle.meta_log.specs.declared.read.Body.{Body}
 use Rattle.store_model.specs.Disk.{Image}
@@ -63,6 +64,7 @@ taken-preserved g c =
           c.args.bodies.now c.taken.i (stored_body c.get-body.result.now) (omega (arith, c.taken-test.true, c.taken.auto.i-end, c.len-i-end.ensures)) is
           (stored-from c.args.bodies.now c.taken.i c.get-body.result.now c.get-body.ensures) (so_far.3.stayed tells).reads so_far.2 (so_far.4 tells)
           (c.in_ok-is_taken.ensures.dropped tells c.if-not-is_taken.false),
+      λ tells. Reads-then (disk.calls c.args.disk.now) (disk.calls c.taken.disk) (disk.calls c.take_body.new.disk) (so_far.5 tells) (c.in_ok-is_taken.ensures.still tells),
     )
 
 pub returns-clause-dropped : goal.returns-clause-dropped

@@ -1,6 +1,7 @@
 use Rattle.std.proofs.Common.{◌≡◌, ℕ, ◌∙◌, List, [], ap, subst, sym, arith}
 use Rattle.std.proofs.lemmas.Bool.Decides.{nat_tests}
 use Rattle.std.proofs.lemmas.List.{nil_from_length}
+use Rattle.extent_io.proofs.Stills.{Reads-then}
 use Rattle.frame_codec.specs.Values.{model_entries, model_entry}
 use Rattle.frame_codec.specs.declared.entry.Entry.{Entry}
 use Rattle.store_model.specs.Disk.{Image}
@@ -40,6 +41,7 @@ taken-preserved g c =
           Telling-entry c.args.is_last (disk.story c.args.disk.now).reads (disk.story c.taken.disk).reads c.args.self.now.layout c.taken.self.layout c.args.self.now.dropped c.taken.self.dropped
           c.take_entry.new.self.dropped (model_entries c.args.entries) (model_entries c.taken.entries) (model_entries c.remove_first-entry.new.self) (model_entry c.remove_first-entry.result)
           (ap model_entries c.remove_first-entry.ensures) (same.0.reads.stayed tells).reads same.1 (same.3 tells) (done.dropped tells),
+      λ tells. Reads-then (disk.calls c.args.disk.now) (disk.calls c.taken.disk) (disk.calls c.take_entry.new.disk) (same.4 tells) (done.still tells),
     )
 
 pub returns-clause-kept : goal.returns-clause-kept

@@ -1,0 +1,94 @@
+-- A checkpoint, over the program's world.
+use Rattle.std.proofs.Common.{◌≡◌, ℕ, zero, suc, ◌+◌, ◌%◌, ◌<◌, ◌≤◌, List, length, take, [], inl, inr, sym, ◌∙◌, ap, subst, arith}
+use Rattle.std.proofs.lemmas.Bool.{cases_lt}
+use Rattle.std.specs.FinMap.{FinMap}
+use Rattle.disk_model.specs.Disks.{OnlyWrites}
+use Rattle.disk_model.specs.declared.disk.Disk.{Ghosts}
+use Rattle.disk_model.proofs.DiskLaws.{OnlyWrites-wider}
+use Rattle.recover.specs.Turns.{IsTurnPage}
+use Rattle.relation.specs.declared.relation.Relation.{Relation}
+use Rattle.store_model.specs.Answer as answer
+use Rattle.store_model.specs.Answer.{answer_text}
+use Rattle.store_model.specs.Cost.{Cost, with_turn}
+use Rattle.store_model.specs.Disk.{Image, page_bytes}
+use Rattle.store_model.specs.Holds.{HoldsAt}
+use Rattle.store_model.specs.Key.{key_order}
+use Rattle.store_model.specs.Layout.{Layout, data_page, states_page}
+use Rattle.store_model.specs.Space.{Block}
+use Rattle.store_model.specs.Standing.{AllStand, SameObjects}
+use Rattle.store_model.specs.Store.{Object, Placement}
+use Rattle.store_model.specs.World as model
+use Rattle.store_model.specs.World.{checkpointed}
+use Rattle.vault.specs.Leads.{Costs, IsLeadPage}
+use Rattle.vault.specs.Vaults.{SameHeld}
+use Rattle.vault.specs.declared.vault.Vault.{Vault}
+use Rattle.blob_steps.specs.Steps.{CameTo, WorldStands}
+use Rattle.blob_steps.specs.declared.world.World.{World}
+
+-- a content is held where each page of the data area reads as before
+held-same : (old new : Image) (first : ℕ) (place : Placement) (content : List ℕ) → ((at : ℕ) → new (first + at) ≡ old (first + at)) → HoldsAt old first place content
+    → HoldsAt new first place content
+held-same old new first place content same held = record {
+  full = λ page less. let one = held.full page less in (one.0, one.1, same one.0 ∙ one.2);
+  tailed = held.tailed;
+  tail = λ page is. ap (take (length content % page_bytes)) (same page) ∙ held.tail page is;
+}
+
+-- so objects stand there
+pub AllStand-same : (from : ℕ) (old new : Image) (layout : Layout) (objects : FinMap key_order Object)
+    → ((at : ℕ) → new (data_page layout + at) ≡ old (data_page layout + at)) → AllStand from old layout objects → AllStand from new layout objects
+AllStand-same from old new layout objects same stand key object there =
+    let one = stand key object there in
+    record {
+      held = held-same old new (data_page layout) object.place object.content same one.held;
+      filled = λ later page is. same page ∙ one.filled later page is;
+    }
+
+-- no page of a half's states is one of the data area
+states-before : (layout : Layout) (half p : ℕ) → half ≤ 1 → p < states_page layout half + layout.room → data_page layout ≤ p → ⊥
+states-before layout zero p two to past = omega (arith, to, past)
+states-before layout (suc zero) p two to past = omega (arith, to, past)
+states-before layout (suc (suc n)) p two to past = omega (arith, two)
+
+-- nor is one of a turn
+turn-before : (layout : Layout) (half p : ℕ) → half ≤ 1 → data_page layout ≤ p → IsTurnPage layout half p → ⊥
+turn-before layout half p two past (inr is) = omega (arith, is, past)
+turn-before layout half p two past (inl (inl inside)) = states-before layout half p two inside.to past
+turn-before layout half p two past (inl (inr (inl header))) = omega (arith, header, past, two)
+turn-before layout half p two past (inl (inr (inr gate))) = omega (arith, gate, past, two)
+
+-- each page of a turn is one before the data area
+turn-lead : (layout : Layout) (taken : List Block) (half p : ℕ) → half ≤ 1 → IsTurnPage layout half p → IsLeadPage layout taken p
+turn-lead layout taken half p two page = elim (cases_lt p (data_page layout)) [
+  | inl before ↦ inl before
+  | inr past ↦ absurd (turn-before layout half p two past page)
+]
+
+-- a vault that was turned is where a checkpoint leads
+pub came-turned : {D : Type 0} (g : Ghosts D) (mine : World D) (vault : Vault D) (world : model.World) (text : List ℕ) (half : ℕ) → half ≤ 1 → WorldStands mine world
+    → SameHeld mine.vault.memory vault.memory → OnlyWrites g (IsTurnPage mine.vault.memory.layout half) mine.vault.disk vault.disk
+    → ((cost : Cost) → cost.gate ≡ mine.vault.memory.log.gate → Costs g cost (with_turn world.store cost) mine.vault.disk vault.disk vault.memory)
+    → text ≡ answer_text answer.Checkpointed
+    → CameTo g world (checkpointed world) text mine (record { vault = vault; sessions = mine.sessions; queue = mine.queue })
+came-turned g mine vault world text half two is same wrote costs text_is =
+    let layout : Layout = mine.vault.memory.layout in
+    record {
+      stands = record {
+        store = record {
+          objects = subst (λ (r : Relation). SameObjects r.states world.store.objects) (sym same.relation) is.store.objects;
+          last = same.last ∙ is.store.last;
+        };
+        sessions = is.sessions;
+        queue = is.queue;
+        requests = is.requests;
+      };
+      did = record {
+        objects = λ told from stand.
+            AllStand-same from (g.story mine.vault.disk).reads (g.story vault.disk).reads layout world.store.objects
+            (λ at. (wrote.wrote told).reads (data_page layout + at) (λ page. turn-before layout half (data_page layout + at) two (omega arith) page)) stand;
+        wrote = (OnlyWrites-wider g (IsTurnPage layout half) (IsLeadPage layout []) mine.vault.disk vault.disk
+            (λ p page. turn-lead layout [] half p two page) wrote).wrote;
+        costs = costs;
+      };
+      text_is = λ told stand. text_is;
+    }

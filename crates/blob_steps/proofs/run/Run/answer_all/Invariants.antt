@@ -1,0 +1,33 @@
+use Rattle.std.proofs.Common.{◌≡◌, ℕ, ◌≤◌, Option, List}
+use Rattle.std.specs.Io.KnownBytes.{prepend_known}
+use Rattle.disk_model.specs.declared.disk.Disk as disk_trait
+use Rattle.io_ends.specs.declared.traits.Source as source_trait
+use Rattle.io_ends.specs.declared.traits.Sink as sink_trait
+use Rattle.store_model.specs.Cost.{Cost}
+use Rattle.store_model.specs.Layout.{Layout}
+use Rattle.store_model.specs.Store.{Store}
+use Rattle.vault.specs.Vaults.{IsVault}
+use Rattle.blob_steps.specs.Going.{Going, GoingSo, StartsOn}
+use Rattle.blob_steps.specs.Runs.{KeepsEnds}
+use Rattle.blob_steps.specs.Steps.{HaveBegun, IsWorld}
+use Rattle.blob_steps.specs.declared.world.World.{World}
+use Rattle.blob_steps.proofs.run.Run.answer_all.Given as goal
+
+-- what holds whatever the disk and the source tell
+pub record RunKept {S K D : Type 0} (source : source_trait.Ghosts S) (sink : sink_trait.Ghosts K) (disk : disk_trait.Ghosts D) (first mine : World D) (number : ℕ)
+    (source_old : S) (sink_old : K) (source_new : S) (sink_new : K) : Type 0 where
+  pub sound : IsWorld disk mine
+  pub layout_is : mine.vault.memory.layout ≡ first.vault.memory.layout
+  pub begun : HaveBegun number mine
+  pub few : number ≤ 1000001
+  pub keeps : KeepsEnds source sink disk source_old sink_old first.vault.disk source_new sink_new mine.vault.disk
+
+abbrev pub invariant-loop-number : goal.invariant-loop-number
+invariant-loop-number g l =
+    let source = g.S.Source in
+    let sink = g.K.Sink in
+    let left = prepend_known l.self.reader (source.left l.source) in
+    ((start : Store) (cost : Cost) → StartsOn g.D.Disk start cost l.fn.self.world
+    → Going g.D.Disk start cost cost l.self.world l.number (source.left l.fn.source) left (sink.taken l.fn.sink) (sink.taken l.sink) l.fn.self.world.vault.disk)
+    × GoingSo l.number (source.left l.fn.source) left (sink.taken l.fn.sink) (sink.taken l.sink)
+    × RunKept source sink g.D.Disk l.fn.self.world l.self.world l.number l.fn.source l.fn.sink l.source l.sink

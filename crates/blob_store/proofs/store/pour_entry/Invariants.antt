@@ -1,6 +1,0 @@
-use Rattle.blob_store.specs.Stores.{pours_of}
-use Rattle.blob_store.proofs.Pourings.{Pouring, pours_front}
-use Rattle.blob_store.proofs.store.pour_entry.Given as goal
-
-abbrev pub invariant-poured : goal.invariant-poured
-invariant-poured g l = Pouring g.D.Disk l.layout (pours_of (l.request, l.entry)) (pours_front l.i l.request l.entry) l.fn.disk l.disk
