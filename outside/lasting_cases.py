@@ -423,7 +423,9 @@ def odd_words(r) -> Case:
         maker.run([b"steps", r.choice([b".", b"missing/s", b"s/", b"/"])], visit(r, keys), False)
     elif kind == "no store":
         rest = r.choice([b"", b"a" * 5, b"\xff" * (PAGE - 1)])
-        maker = Maker(r, disk.Image(r.choice([0, 1, 2052, 2053, 2060]), {r.randrange(2052): b"a" * PAGE}, rest))
+        count = r.choice([0, 1, 2052, 2053, 2060])
+        pages = {r.randrange(count): b"a" * PAGE} if count else {}
+        maker = Maker(r, disk.Image(count, pages, rest))
         maker.run(STEPS, visit(r, keys))
     else:
         maker.fresh(played(r, keys))

@@ -1,5 +1,5 @@
 -- Checks of states one behind the other.
-use Rattle.std.proofs.Common.{◌≡◌, ℕ, zero, suc, ◌+◌, ◌≤◌, Bool, Some, List, [], ◌∷◌, ◌++◌, length, codes, decimal, refl, sym, ap, ◌∙◌, subst, arith}
+use Rattle.std.proofs.Common.{◌≡◌, ℕ, zero, suc, ◌+◌, ◌≤◌, Bool, Option, None, Some, List, [], ◌∷◌, ◌++◌, length, codes, decimal, refl, sym, ap, ◌∙◌, subst, arith}
 use Rattle.std.specs.Prelude.{IsTrue, slice_get}
 use Rattle.std.specs.FinMap.{entries, len}
 use Rattle.std.proofs.KnownBytes.{Appends-nil, Appends-trans}
@@ -15,6 +15,7 @@ use Rattle.disk_model.specs.Disks.{OnlyReads}
 use Rattle.disk_model.specs.declared.disk.Disk as disk_trait
 use Rattle.disk_model.proofs.DiskLaws.{OnlyReads-then}
 use Rattle.io_ends.specs.declared.traits.Sink as sink_trait
+use Rattle.relation.specs.Parts.{Parts}
 use Rattle.store_model.specs.Answer.{line_end}
 use Rattle.store_model.specs.Disk.{Image}
 use Rattle.store_model.specs.Layout.{Layout, data_page}
@@ -22,6 +23,11 @@ use Rattle.store_model.specs.Reading.{Found}
 use Rattle.store_model.specs.Report.{AreDamages, Damage, check_text, damage_line}
 use Rattle.store_model.specs.State.{State}
 use Rattle.store_model.specs.Verify.{FailsFirst, Verifies, computed}
+use Rattle.vault.specs.Faults.{IsUnread, gather_fault_of}
+use Rattle.vault.specs.declared.fault.Cause.{Cause}
+use Rattle.vault.specs.declared.fault.GatherFault.{GatherFault}
+use Rattle.vault.specs.declared.fault.GatherFault.TheVariants as gather
+use Rattle.vault.specs.declared.memory.Memory.{Memory}
 use Rattle.blob_report.specs.Checks.{AddsTo, BrokeCheck, DidCheck, FirstNamed, HasCounted, IsFault, WasChecked}
 use Rattle.blob_report.specs.Ends.{BrokeOff, EndsPrinting, HasPrinted, IsCaused, disk_ending}
 use Rattle.blob_report.specs.Reports.{IsOfLink, damages_text}
@@ -41,6 +47,14 @@ slice_get-behind (x ∷ es) fs i e there =
     let same : suc (length es + i) ≡ length (x ∷ es) + i = omega arith in
     subst (λ (n : ℕ). slice_get (x ∷ es ++ fs) n ≡ Some e) same (slice_get-behind es fs i e there)
 
+-- the entry at an index of a relation in memory, under a copy of its key, where memory is as it was
+pub entry-held : (relation : Parts) (now first : Memory) (i : ℕ) (key : List ℕ) (one : List ℕ × State) → relation ≡ now.relation → now ≡ first
+    → slice_get (entries relation.states) i ≡ Some (key, one.1) → one.0 ≡ key → slice_get (entries first.relation.states) i ≡ Some one
+entry-held relation now first i key one held same there copy =
+    subst (λ (r : Parts). slice_get (entries r.states) i ≡ Some one) (held ∙ ap (λ (m : Memory). m.relation) same)
+    (there ∙ ap (λ (k : List ℕ). Some (k, one.1)) (sym copy))
+
+-- the damages of states and of others behind them
 FirstNamed-then : (es fs : List (List ℕ × State)) (a b : List Damage) → FirstNamed es a → FirstNamed fs b → FirstNamed (es ++ fs) (a ++ b)
 FirstNamed-then es fs [] [] one other = tt
 FirstNamed-then es fs [] (d ∷ b) one other = (length es + other.0, (other.1.0, slice_get-behind es fs other.0 (d.key, other.1.0) other.1.1, other.1.2))
@@ -81,6 +95,14 @@ disk-fault io.OutOfMemory = tt
 disk-caused : (cause : IoFault) (frugal : Bool) (sink_before sink_now before now : ℕ) → CameFrom cause before now frugal → IsCaused (disk_ending cause) sink_before sink_now before now
 disk-caused io.Failed frugal sink_before sink_now before now came = came
 disk-caused io.OutOfMemory frugal sink_before sink_now before now came = tt
+
+-- a content of a vault that isn't shut isn't read where the disk failed
+pub read-failed : (was : Option Cause) (before now : ℕ) (frugal : Bool) (fault : GatherFault) → was ≡ None → IsUnread (λ number. ⊥) was before now frugal fault
+    → (cause : IoFault) × (fault ≡ gather_fault_of cause) × CameFrom cause before now frugal
+read-failed was before now frugal (gather.Shut why) none unread = absurd (cc (none, unread))
+read-failed was before now frugal (gather.Stale number) none unread = absurd unread.1
+read-failed was before now frugal gather.Failed none unread = (io.Failed, refl, unread.1)
+read-failed was before now frugal gather.OutOfMemory none unread = (io.OutOfMemory, refl, unread.1)
 
 -- the last line of a check, which found so many damages
 abbrev pub last_text : Found → ℕ → List ℕ

@@ -1,5 +1,5 @@
 -- The check of a store as a whole.
-use Rattle.std.proofs.Common.{◌≡◌, ℕ, ◌<◌, List, [], ◌∷◌, inr, refl, sym, ap, ◌∙◌, subst, arith}
+use Rattle.std.proofs.Common.{◌≡◌, ℕ, ◌<◌, List, [], ◌∷◌, Option, None, inr, refl, sym, ◌∙◌, subst, arith}
 use Rattle.std.specs.Prelude.{IsTrue}
 use Rattle.std.specs.FinMap.{entries}
 use Rattle.blob_script.specs.declared.status.Status.{Status}
@@ -10,24 +10,20 @@ use Rattle.io_ends.specs.declared.traits.Sink as sink_trait
 use Rattle.recover.specs.Openings.{IsMetadata}
 use Rattle.recover.proofs.Owned.{entry-there}
 use Rattle.store_model.specs.Disk.{Image}
-use Rattle.store_model.specs.Frame.{Entry}
 use Rattle.store_model.specs.Half.{picked}
 use Rattle.store_model.specs.Layout.{Layout, data_page}
-use Rattle.store_model.specs.LogReading.{StoredBody}
-use Rattle.store_model.specs.Reading.{Found, Gives, Opened, Reads, TakesEach}
+use Rattle.store_model.specs.Reading.{Found, Gives, Opened, Reads}
 use Rattle.store_model.specs.Report.{Damage, check_text}
+use Rattle.store_model.proofs.FurtherLaws.{TakesEach-layout}
 use Rattle.store_model.proofs.HalfRefusalLaws.{FindsHalf-one}
+use Rattle.vault.specs.Vaults.{IsVault, found_of}
+use Rattle.vault.specs.declared.fault.Cause.{Cause}
+use Rattle.vault.specs.declared.memory.Memory.{Memory}
 use Rattle.blob_report.specs.Checks.{BrokeCheck, FirstNamed, IsFault, WasChecked}
 use Rattle.blob_report.specs.Reports.{BrokenOff, Checked, IsChecked, IsCheckedAs, NamesDamage, Reported, verdict_of}
 use Rattle.blob_report.proofs.Damages.{AreDamages-same, SameFrom}
 
--- the layout of a store is that of the half that it starts with
-TakesEach-layout : (Kept : List StoredBody → List Entry → List Entry → Type 0) (before : Found) (bodies : List StoredBody) (after : Found) → TakesEach Kept before bodies after
-    → after.layout ≡ before.layout
-TakesEach-layout Kept before [] after takes = ap (λ (f : Found). f.layout) takes
-TakesEach-layout Kept before (body ∷ bodies) after takes =
-    TakesEach-layout Kept takes.0 bodies after takes.2 ∙ ap (λ (f : Found). f.layout) takes.1.after_is
-
+-- a page of the metadata stands before the data area of the store
 metadata-before : (pages : ℕ) (image : Image) (found : Found) (p : ℕ) → Gives pages image found → IsMetadata pages image p → p < data_page found.layout
 metadata-before pages image found p gives meta =
     let same = FindsHalf-one pages image (picked (image 0)) meta.start.layout gives.start.layout meta.start.last gives.start.last meta.start.states gives.start.states meta.finds gives.finds in
@@ -45,16 +41,24 @@ module _ {K D : Type 0} (sink : sink_trait.Ghosts K) (g : disk_trait.Ghosts D) w
   reported-as [] first to old new report = report
   reported-as (one ∷ rest) first to old new report = report
 
-  -- what was checked behind the opening
-  pub Checked-whole : (found : Found) (how : Status) (first to : K) (old mid new : D) → (IsTrue g.tells → Reads (g.size old) (g.story old).reads (Opened found))
-      → (IsTrue g.tells → Reads (g.size old) (g.story mid).reads (Opened found)) → OnlyWrites g (IsMetadata (g.size old) (g.story old).reads) old mid
-      → WasChecked sink g found how first to mid new → Checked sink g how first to old new
-  Checked-whole found how first to old mid new before turned writes was =
+  -- the disk of a vault that isn't shut reads as the store in memory
+  vault-reads : (disk : D) (mine : Memory) (shut : Option Cause) → IsVault g disk mine shut → shut ≡ None → IsTrue g.tells
+      → Reads (g.size disk) (g.story disk).reads (Opened (found_of mine))
+  vault-reads disk mine shut vault none tells = let at = (vault.rest tells none).at in (at.gives, at.apart)
+
+  -- what was checked of a vault that was opened
+  pub Checked-whole : (mine : Memory) (shut : Option Cause) (how : Status) (first to : K) (old mid new : D)
+      → (IsTrue g.tells → Reads (g.size old) (g.story old).reads (Opened (found_of mine))) → IsVault g mid mine shut → shut ≡ None
+      → OnlyWrites g (IsMetadata (g.size old) (g.story old).reads) old mid → WasChecked sink g (found_of mine) how first to mid new → Checked sink g how first to old new
+  Checked-whole mine shut how first to old mid new before vault none writes was =
+      let found = found_of mine in
       subst (λ (s : Status). Checked sink g s first to old new) (sym was.verdict_is)
       (reported-as was.damages first to old new (record {
         found = found;
         before = before;
-        after = λ tells. subst (λ (i : Image). Reads (g.size old) i (Opened found)) (sym (was.only.stayed tells).reads) (turned tells);
+        after = λ tells.
+            subst (λ (n : ℕ). Reads n (g.story new).reads (Opened found)) writes.keeps.size
+            (subst (λ (i : Image). Reads (g.size mid) i (Opened found)) (sym (was.only.stayed tells).reads) (vault-reads mid mine shut vault none tells));
         text = check_text found was.damages;
         is = λ tells. (
           was.damages,

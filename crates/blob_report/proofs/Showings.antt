@@ -7,8 +7,8 @@ use Rattle.hex.specs.Hex.{encode_lower}
 use Rattle.blob_script.specs.declared.status.Status.{Status}
 use Rattle.blob_script.specs.declared.status.Status.TheVariants as status
 use Rattle.disk_model.specs.declared.disk.Disk as disk_trait
+use Rattle.group_plan.proofs.Walks.{take-next}
 use Rattle.io_ends.specs.declared.traits.Sink as sink_trait
-use Rattle.recover.proofs.Puttings.{take-next}
 use Rattle.store_model.specs.Answer.{line_end}
 use Rattle.store_model.specs.Report.{state_line}
 use Rattle.store_model.specs.State.{State}
@@ -27,7 +27,7 @@ line-is line key size born digest state is size_is digest_is born_is =
 -- one line more
 pub states-next : (es : List (List ℕ × State)) (i : ℕ) (one : List ℕ × State) → slice_get es i ≡ Some one
     → states_text (take i es) ++ state_line one ≡ states_text (take (i + 1) es)
-states-next es i one there = flat_map_more state_line [] (take i es) one ∙ ap states_text (take-next es i one there)
+states-next es i one there = flat_map_more state_line [] (take i es) one ∙ ap states_text (sym (take-next es i one there))
 
 -- what stands behind it
 pub states-whole : (es : List (List ℕ × State)) (i : ℕ) (one : List ℕ × State) → slice_get es i ≡ Some one

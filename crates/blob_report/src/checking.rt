@@ -1,29 +1,26 @@
 // The check of a store.
 
-ghost use Rattle.std.specs.Prelude.{◌≡◌, ℕ, ◌+◌, ◌-◌, ◌^◌, ◌<◌, ◌≤◌, List, [], ◌∷◌, ◌++◌, IfErr, IfOk, OnOk};
-ghost use Rattle.std.specs.FinMap.{entries};
+ghost use Rattle.std.specs.Prelude.{◌≡◌, ℕ, ◌+◌, ◌-◌, ◌^◌, ◌<◌, List, [], ◌∷◌, ◌++◌, IfErr, IfOk, None, OnOk, Some};
+ghost use Rattle.std.specs.FinMap.{entries, get};
 ghost use Rattle.blob_base.specs.Faults.{KeepsEnd};
 ghost use Rattle.disk_model.specs.Disks.{OnlyWrites};
-ghost use Rattle.recover.specs.Openings.{IsMetadata, found_of};
-ghost use Rattle.store_model.specs.Half.{IsHalf};
-ghost use Rattle.store_model.specs.Holds.{place_of};
-ghost use Rattle.store_model.specs.Layout.{data_pages, total_pages};
+ghost use Rattle.recover.specs.Openings.{IsMetadata};
 ghost use Rattle.store_model.specs.Report.{Damage, check_text};
-ghost use Rattle.store_model.specs.Space.{AreBlocks, blocks_of};
+ghost use Rattle.store_model.specs.State.{State};
+ghost use Rattle.vault.specs.Vaults.{IsVault, found_of};
 ghost use Rattle.blob_report.specs.Ends.{IsCaused};
 ghost use Rattle.blob_report.specs.Reports.{Checked as DidCheckStore, NamesDamage, damages_text, verdict_of};
 ghost use Rattle.blob_report.specs.Checks.{AddsTo, BrokeCheck, DidCheck, HasCounted, WasChecked};
 
 use crate::printing::print;
-use crate::status::{disk_status, opening_status};
+use crate::status::{opening_status, unread_status};
 use blob_base::Key;
 use blob_script::{Status, checked_line};
-use blob_state::BlobState;
-use disk_model::{Disk, Layout};
-use extent_io::{Verdict, verify};
+use disk_model::Disk;
+use extent_io::Verdict;
 use io_ends::Sink;
-use recover::{Found, recover};
 use std::alloc::Global;
+use vault::Vault;
 
 // What a check has found so far: the first damage, where there is one, and how many there are.
 #[derive(Drop)]
@@ -56,27 +53,31 @@ impl Checked {
     }
 }
 
-// Verifies a state, and prints a line where it is damaged.
+// Verifies the content of a key, which has one, and prints a line where it is damaged.
 fn check_one<K: Sink, D: Disk>(
     sink: &mut K,
-    disk: &mut D,
-    layout: Layout,
-    key: &Key,
-    state: &BlobState,
+    vault: &mut Vault<D>,
+    key: Key,
     checked: &mut Checked,
 ) -> Result<(), Status>
-    requires disk { total_pages layout ≤ D.size disk.old }
-    requires within { AreBlocks (data_pages layout) (blocks_of (place_of state.now)) }
+    requires vault { IsVault D.Disk vault.old.disk vault.old.memory vault.old.shut }
+    requires open { vault.old.shut ≡ None }
+    requires there { (state : State) × (get vault.old.memory.relation.states key ≡ Some state) }
     requires few { checked.old.damaged < 2 ^ 64 - 1 }
-    ensures ok { OnOk result (DidCheck K.Sink D.Disk layout ((key.now, state.now) ∷ []) (AddsTo checked.old checked.new)
-        sink.old sink.new disk.old disk.new) }
-    ensures err { IfErr result (λ status.
-        BrokeCheck K.Sink D.Disk damages_text layout ((key.now, state.now) ∷ []) status sink.old sink.new disk.old disk.new) }
+    ensures ok { (state : State) → get vault.old.memory.relation.states key ≡ Some state
+        → OnOk result (DidCheck K.Sink D.Disk vault.old.memory.layout ((key, state) ∷ []) (AddsTo checked.old checked.new)
+        sink.old sink.new vault.old.disk vault.new.disk) }
+    ensures err { (state : State) → get vault.old.memory.relation.states key ≡ Some state
+        → IfErr result (λ status.
+        BrokeCheck K.Sink D.Disk damages_text vault.old.memory.layout ((key, state) ∷ []) status sink.old sink.new
+        vault.old.disk vault.new.disk) }
+    ensures keeps { IsVault D.Disk vault.new.disk vault.new.memory vault.new.shut }
+    ensures memory { vault.new.memory ≡ vault.old.memory }
+    ensures shut { vault.new.shut ≡ vault.old.shut }
 {
-    match verify(disk, layout, state) {
+    match vault.verify(&key) {
         Ok(Verdict::Whole) => Ok(()),
         Ok(Verdict::Damaged { link, want, got }) => {
-            let key = key.copy();
             let damage = Status::Damaged {
                 key,
                 link,
@@ -87,68 +88,69 @@ fn check_one<K: Sink, D: Disk>(
             checked.add(damage);
             Ok(())
         }
-        Err(cause) => Err(disk_status(cause)),
+        Err(fault) => Err(unread_status(fault)),
     }
 }
 
-// Verifies each state, in the order of their keys.
-fn check_states<K: Sink, D: Disk>(
-    sink: &mut K,
-    disk: &mut D,
-    found: &Found,
-) -> Result<Checked, Status>
-    requires disk { total_pages found.now.layout ≤ D.size disk.old }
-    requires half { IsHalf found.now.layout found.now.last found.now.relation.states }
+// Verifies the content of each key, in the order of the keys.
+fn check_states<K: Sink, D: Disk>(sink: &mut K, vault: &mut Vault<D>) -> Result<Checked, Status>
+    requires vault { IsVault D.Disk vault.old.disk vault.old.memory vault.old.shut }
+    requires open { vault.old.shut ≡ None }
     ensures ok { IfOk result (λ checked.
-        DidCheck K.Sink D.Disk found.now.layout (entries found.now.relation.states) (HasCounted checked)
-        sink.old sink.new disk.old disk.new) }
+        DidCheck K.Sink D.Disk vault.old.memory.layout (entries vault.old.memory.relation.states) (HasCounted checked)
+        sink.old sink.new vault.old.disk vault.new.disk) }
     ensures err { IfErr result (λ status.
-        BrokeCheck K.Sink D.Disk damages_text found.now.layout (entries found.now.relation.states) status
-        sink.old sink.new disk.old disk.new) }
+        BrokeCheck K.Sink D.Disk damages_text vault.old.memory.layout (entries vault.old.memory.relation.states) status
+        sink.old sink.new vault.old.disk vault.new.disk) }
+    ensures keeps { IsVault D.Disk vault.new.disk vault.new.memory vault.new.shut }
+    ensures memory { vault.new.memory ≡ vault.old.memory }
 {
     let mut checked = Checked::new();
-    'checked: for i in 0..found.relation.len() {
-        let (key, state) = found.relation.nth(i);
-        check_one(sink, disk, found.layout, key, state, &mut checked)?;
+    'checked: for i in 0..vault.relation().len() {
+        let (key, _) = vault.relation().nth(i);
+        let key = key.copy();
+        check_one(sink, vault, key, &mut checked)?;
     }
     Ok(checked)
 }
 
-// Verifies each state, and prints how many there are. It answers the first damage, and `Done` where there is none.
-fn check<K: Sink, D: Disk>(sink: &mut K, disk: &mut D, found: &Found) -> Result<Status, Status>
-    requires disk { total_pages found.now.layout ≤ D.size disk.old }
-    requires half { IsHalf found.now.layout found.now.last found.now.relation.states }
+// Verifies the content of each key, and prints how many there are. It answers the first damage, and `Done` where there is
+// none.
+fn check<K: Sink, D: Disk>(sink: &mut K, vault: &mut Vault<D>) -> Result<Status, Status>
+    requires vault { IsVault D.Disk vault.old.disk vault.old.memory vault.old.shut }
+    requires open { vault.old.shut ≡ None }
     ensures ok { IfOk result (λ verdict.
-        WasChecked K.Sink D.Disk (found_of found.now) verdict sink.old sink.new disk.old disk.new) }
+        WasChecked K.Sink D.Disk (found_of vault.old.memory) verdict sink.old sink.new vault.old.disk vault.new.disk) }
     ensures err { IfErr result (λ status.
-        BrokeCheck K.Sink D.Disk (check_text (found_of found.now)) found.now.layout (entries found.now.relation.states) status
-        sink.old sink.new disk.old disk.new) }
+        BrokeCheck K.Sink D.Disk (check_text (found_of vault.old.memory)) vault.old.memory.layout
+        (entries vault.old.memory.relation.states) status sink.old sink.new vault.old.disk vault.new.disk) }
+    ensures keeps { IsVault D.Disk vault.new.disk vault.new.memory vault.new.shut }
 {
-    let checked = check_states(sink, disk, found)?;
-    let states = found.relation.len() as u64;
+    let checked = check_states(sink, vault)?;
+    let states = vault.relation().len() as u64;
     print(sink, checked_line(states, checked.damaged).as_slice())?;
     Ok(checked.verdict)
 }
 
-/// Opens a disk, verifies its states in the order of their keys, and prints a line for each that is damaged, and how many
-/// there are. It answers the first damage, where there is one.
-pub fn run_check<K: Sink, D: Disk>(alloc: Global, sink: &mut K, disk: &mut D) -> Status
-    ensures checked { DidCheckStore K.Sink D.Disk result sink.old sink.new disk.old disk.new }
+/// Opens the store of a disk, verifies the content of each key, in the order of the keys, and prints a line for each that is
+/// damaged, and how many there are. It answers the first damage, where there is one, and the disk.
+pub fn run_check<K: Sink, D: Disk>(alloc: Global, sink: &mut K, disk: D) -> (Status, D)
+    ensures checked { DidCheckStore K.Sink D.Disk result.0 sink.old sink.new disk result.1 }
 
     // Whatever the disk tells, damage is that of a link of a state of the key: what the state keeps of it, and another value.
-    ensures named { NamesDamage D.Disk result disk.old }
+    ensures named { NamesDamage D.Disk result.0 disk }
 
     // No page of the data area was written, and a crash leaves each as before.
-    ensures wrote { OnlyWrites D.Disk (IsMetadata (D.size disk.old) (D.story disk.old).reads) disk.old disk.new }
-    ensures caused { IsCaused result (K.faults sink.old) (K.faults sink.new) (D.faults disk.old) (D.faults disk.new) }
+    ensures wrote { OnlyWrites D.Disk (IsMetadata (D.size disk) (D.story disk).reads) disk result.1 }
+    ensures caused { IsCaused result.0 (K.faults sink.old) (K.faults sink.new) (D.faults disk) (D.faults result.1) }
     ensures keeps { KeepsEnd K.faults K.frugal sink.old sink.new }
 {
-    let found = match recover(alloc, disk) {
-        Ok(found) => found,
-        Err(fault) => return opening_status(fault),
+    let mut vault = match Vault::open(alloc, disk) {
+        Ok(vault) => vault,
+        Err(failed) => return (opening_status(failed.fault), failed.disk),
     };
-    match check(sink, disk, &found) {
-        Ok(verdict) => verdict,
-        Err(status) => status,
+    match check(sink, &mut vault) {
+        Ok(verdict) => (verdict, vault.close()),
+        Err(status) => (status, vault.close()),
     }
 }

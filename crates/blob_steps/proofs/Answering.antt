@@ -20,6 +20,7 @@ use Rattle.blob_steps.specs.declared.fault.StoreFault.{StoreFault}
 use Rattle.blob_steps.specs.declared.fault.StoreFault.TheVariants as store_fault
 use Rattle.blob_steps.specs.declared.world.World.{World}
 use Rattle.blob_steps.proofs.Doing.{Did-reads, IsStill}
+use Rattle.blob_steps.proofs.Turning.{WorldKnown-stands}
 
 -- what holds of the value of a result that is known
 pub ok-is : {X E : Type 0} (P : X → Type 0) (r : Result X E) (x : X) → r ≡ Ok x → IfOk r P → P x
@@ -52,7 +53,7 @@ turn-plays {D = D} g mine later new number action asked line shown text world is
     stands = takes.stands world is;
     did = Did-none g world.store (transact world number action) mine later (transact-still world number action) takes.vault;
     text_is = λ told stand. text_is ∙ ap (λ (l : AnswerLine). answer_text (answer.Session number (model_line l) None)) shown_is
-        ∙ ap (λ (l : answer.AnswerLine). answer_text (answer.Session number l None)) (takes.line_is world is);
+        ∙ ap (λ (l : answer.AnswerLine). answer_text (answer.Session number l None)) (takes.line_is world (WorldKnown-stands mine world is));
   }),
 )
 

@@ -22,7 +22,8 @@ use Rattle.store_model.specs.World.{checkpointed}
 use Rattle.vault.specs.Leads.{Costs, IsLeadPage}
 use Rattle.vault.specs.Vaults.{SameHeld}
 use Rattle.vault.specs.declared.vault.Vault.{Vault}
-use Rattle.blob_steps.specs.Steps.{CameTo, WorldStands}
+use Rattle.blob_steps.specs.Known.{AllKnown}
+use Rattle.blob_steps.specs.Steps.{CameTo, Follows, WorldKnown, WorldStands}
 use Rattle.blob_steps.specs.declared.world.World.{World}
 
 -- a content is held where each page of the data area reads as before
@@ -91,4 +92,24 @@ came-turned g mine vault world text half two is same wrote costs text_is =
         costs = costs;
       };
       text_is = λ told stand. text_is;
+    }
+
+-- so is the known world
+pub follows-turned : {D : Type 0} (g : Ghosts D) (mine : World D) (vault : Vault D) (world : model.World) (half : ℕ) → half ≤ 1 → WorldKnown mine world
+    → SameHeld mine.vault.memory vault.memory → OnlyWrites g (IsTurnPage mine.vault.memory.layout half) mine.vault.disk vault.disk
+    → Follows g world mine (record { vault = vault; sessions = mine.sessions; queue = mine.queue })
+follows-turned g mine vault world half two is same wrote =
+    let layout : Layout = mine.vault.memory.layout in
+    record {
+      known = record {
+        store = record {
+          objects = subst (λ (r : Relation). AllKnown r.states world.store.objects) (sym same.relation) is.store.objects;
+          last = same.last ∙ is.store.last;
+        };
+        sessions = is.sessions;
+        queue = is.queue;
+        requests = is.requests;
+      };
+      states = ap (λ (r : Relation). r.states) same.relation;
+      pages = λ told at. (wrote.wrote told).reads (data_page layout + at) (λ page. turn-before layout half (data_page layout + at) two (omega arith) page);
     }

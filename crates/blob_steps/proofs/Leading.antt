@@ -1,6 +1,7 @@
 -- A lead, over the program's world.
-use Rattle.std.proofs.Common.{◌≡◌, ◌≢◌, ℕ, zero, suc, ◌+◌, ◌==◌, ◌<◌, ◌≤◌, Bool, true, false, cond, ◌||◌, ◌⊎◌, List, [], ◌∷◌, ◌++◌, length, map, take, drop, Some, None, inl, inr, refl, sym, ◌∙◌, ap, subst, arith}
+use Rattle.std.proofs.Common.{◌≡◌, ◌≢◌, ℕ, zero, suc, ◌+◌, ◌==◌, ◌<◌, ◌≤◌, Bool, true, false, cond, ◌||◌, ◌⊎◌, List, [], ◌∷◌, ◌++◌, length, map, take, drop, fold, Some, None, inl, inr, refl, sym, ◌∙◌, ap, subst, arith}
 use Rattle.std.specs.Prelude.{slice_get, slice_index_or}
+use Rattle.std.specs.FinMap.{FinMap}
 use Rattle.std.specs.List.{All, AllPairs, list_any}
 use Rattle.std.proofs.lemmas.Map.Made.{IsDistinct-from_AllPairs}
 use Rattle.std.proofs.lemmas.Bool.{cases_Bool}
@@ -16,31 +17,34 @@ use Rattle.group_plan.specs.declared.plan.Reply.{Reply as ReplyTo}
 use Rattle.store_model.specs.Answer as answer
 use Rattle.store_model.specs.Answer.{answer_text}
 use Rattle.store_model.specs.Cost.{with_lead}
-use Rattle.store_model.specs.Group.{Member, Reply, commits_of, member_of, no_tally, reply_of, taken_blocks}
+use Rattle.store_model.specs.Group.{Commit, Member, Reply, commits_of, member_of, no_tally, reply_of, taken_blocks}
 use Rattle.store_model.specs.Images.{Wrote}
 use Rattle.store_model.specs.Judgement.{Ledger}
-use Rattle.store_model.specs.Layout.{Layout}
+use Rattle.store_model.specs.Key.{key_order}
+use Rattle.store_model.specs.Layout.{Layout, data_page}
 use Rattle.store_model.specs.Standing.{AllStand}
+use Rattle.store_model.specs.State.{State}
 use Rattle.store_model.specs.Store as model
 use Rattle.store_model.specs.Turn as turn
 use Rattle.store_model.specs.World as world
-use Rattle.store_model.specs.World.{Outcome, freed, group_in, idle, lead, lead_queue, led}
+use Rattle.store_model.specs.World.{Outcome, freed, group_in, idle, lead, lead_queue, led, with_commit}
 use Rattle.txn.specs.Requests.{asked_of}
 use Rattle.txn.specs.declared.request.Request.{Request}
 use Rattle.vault.specs.Leads.{Costs, IsLeadPage, Led, MayHaveWritten, StoreStands, ledger_in}
 use Rattle.vault.specs.Pours.{AreWhole, made_by}
-use Rattle.vault.specs.Vaults.{IsVault}
+use Rattle.vault.specs.Vaults.{IsUnmade, IsVault}
 use Rattle.vault.specs.declared.memory.Memory.{Memory}
 use Rattle.vault.specs.declared.vault.Vault.{Vault}
 use Rattle.blob_steps.specs.Sessions.{SessionStands, StageStands}
-use Rattle.blob_steps.specs.Steps.{AreDistinct, AreSessions, CameTo, Did, HaveBegun, IsWorld, Replying, RequestStands, WorldStands, is_of, replies_text, stage_left}
+use Rattle.blob_steps.specs.Known.{AllKnown, StoreKnown}
+use Rattle.blob_steps.specs.Steps.{AreDistinct, AreSessions, CameTo, Did, Follows, HaveBegun, IsWorld, Replying, RequestStands, WorldIs, WorldKnown, WorldStands, is_of, replies_text, stage_left}
 use Rattle.blob_steps.specs.declared.session.Session.{Session}
 use Rattle.blob_steps.specs.declared.session.Stage.{Stage}
 use Rattle.blob_steps.specs.declared.session.Stage.TheVariants.{Free}
 use Rattle.blob_steps.specs.declared.world.World.{World}
 use Rattle.blob_steps.proofs.Answering.{Did-none}
 use Rattle.blob_steps.proofs.Members.{AreOf, AreOf-members, group-stands, made-members, members-of, members-text}
-use Rattle.blob_steps.proofs.Turning.{same-number}
+use Rattle.blob_steps.proofs.Turning.{WorldKnown-stands, same-number}
 
 -- the sessions of requests
 abbrev pub sessions_of : List Request → List ℕ
@@ -76,6 +80,14 @@ lead-none g mine now text is none text_is =
       did = Did-none g now.store (idle now) mine mine (record { none = refl; stays = refl; same = refl }) refl;
       text_is = λ told stand. text_is;
     })
+
+-- and leaves a known world as it is
+pub follows-none : {D : Type 0} (g : Ghosts D) (mine : World D) (now : world.World) → WorldKnown mine now → mine.queue ≡ []
+    → Follows g (lead mine.vault.memory.layout now).world mine mine
+follows-none g mine now is none =
+    let empty : now.queue ≡ [] = is.queue ∙ ap sessions_of none in
+    subst (λ (outcome : Outcome). Follows g outcome.world mine mine) (sym (ap (lead_queue mine.vault.memory.layout now) empty))
+    (record { known = is; states = refl; pages = λ told at. refl })
 
 -- there are as many replies as members
 pub replies-count : (replies : List ReplyTo) (members : List Member) → map model_reply replies ≡ map reply_of members → length replies ≡ length members
@@ -260,11 +272,11 @@ module _ {D : Type 0} (g : Ghosts D) (mine middle new : World D) (members : List
   }
 
   -- the program's world stands behind the replies
-  pub led-stands : (now : world.World) → WorldStands mine now → StoreStands middle.vault.memory (led now members).world.store → WorldStands new (led now members).world
-  led-stands now is store =
+  pub led-is : (Is : Memory → model.Store → Type 0) (now : world.World) → WorldIs Is mine now → Is middle.vault.memory (led now members).world.store → WorldIs Is new (led now members).world
+  led-is Is now is store =
       let after = led-sessions now.sessions (record { sessions = is.sessions; requests = is.requests }) in
       record {
-        store = subst (λ (v : Vault D). StoreStands v.memory (led now members).world.store) (sym done.replied.vault) store;
+        store = subst (λ (v : Vault D). Is v.memory (led now members).world.store) (sym done.replied.vault) store;
         sessions = after.sessions;
         queue = ap (λ (k : ℕ). drop k now.queue) (sym done.count) ∙ ap (λ (ns : List ℕ). drop n ns) is.queue
             ∙ drop-map (λ (r : Request). r.session) n mine.queue ∙ ap sessions_of (sym queue-left);
@@ -317,6 +329,33 @@ module _ {D : Type 0} (g : Ghosts D) (mine middle new : World D) (replies : List
   abbrev pub group_members : List Member
   group_members = members_of (ledger_in mine.vault.memory) mine.queue
 
+  -- a lead of a known world is that of the group
+  outcome-known : (now : world.World) → WorldKnown mine now → AreWhole mine.queue → 0 < length mine.queue → lead mine.vault.memory.layout now ≡ led now group_members
+  outcome-known now is whole some =
+      lead-is mine.vault.memory.layout now mine.queue is.queue some
+      ∙ ap (led now) (group-stands mine.vault.memory mine.queue now is.store whole is.queue is.requests)
+
+  -- one without a commit leaves the vault as it was
+  pub follows-led : (now : world.World) (n : ℕ) → WorldKnown mine now → HasLed g mine middle new group_members n → 0 < length mine.queue
+      → (commits_of group_members ≡ [] → IsUnmade mine.vault.disk middle.vault.disk mine.vault.memory middle.vault.memory mine.vault.shut middle.vault.shut)
+      → (lead mine.vault.memory.layout now).commits ≡ [] → Follows g (lead mine.vault.memory.layout now).world mine new
+  follows-led now n is done some idle none =
+      let same : lead mine.vault.memory.layout now ≡ led now group_members = outcome-known now is done.sound.whole some in
+      let no_commits : commits_of group_members ≡ [] = sym (ap (λ (o : Outcome). o.commits) same) ∙ none in
+      let kept = idle no_commits in
+      let stays : (led now group_members).world.store ≡ now.store = ap (λ (commits : List Commit). fold (with_commit now.sessions) now.store commits) no_commits in
+      let known : StoreKnown middle.vault.memory now.store = record {
+        objects = subst (λ (states : FinMap key_order State). AllKnown states now.store.objects) (sym kept.states) is.store.objects;
+        last = kept.last ∙ is.store.last;
+      } in
+      subst (λ (o : Outcome). Follows g o.world mine new) (sym same) (record {
+        known = led-is g mine middle new group_members n done StoreKnown now is (subst (StoreKnown middle.vault.memory) (sym stays) known);
+        states = ap (λ (v : Vault D). v.memory.relation.states) done.replied.vault ∙ kept.states;
+        pages = λ told at.
+            ap (λ (v : Vault D). (g.story v.disk).reads (data_page mine.vault.memory.layout + at)) done.replied.vault
+            ∙ ap (λ (d : D). (g.story d).reads (data_page mine.vault.memory.layout + at)) kept.disk;
+      })
+
   -- what the vault says of the lead
   module _ (now : world.World) (is : WorldStands mine now)
       (led_is : Led g mine.vault.disk middle.vault.disk mine.vault.memory now.store mine.queue group_members replies middle.vault.memory) where
@@ -326,12 +365,10 @@ module _ {D : Type 0} (g : Ghosts D) (mine middle new : World D) (replies : List
         (AreOf-members (ledger_in mine.vault.memory) (no_tally (ledger_in mine.vault.memory)) mine.queue) is.requests
 
     outcome-is : AreWhole mine.queue → 0 < length mine.queue → lead mine.vault.memory.layout now ≡ led now group_members
-    outcome-is whole some =
-        lead-is mine.vault.memory.layout now mine.queue is.queue some
-        ∙ ap (led now) (group-stands mine.vault.memory mine.queue now is.store whole is.queue is.requests)
+    outcome-is whole some = outcome-known now (WorldKnown-stands mine now is) whole some
 
     pub stands-led : (n : ℕ) → HasLed g mine middle new group_members n → WorldStands new (led now group_members).world
-    stands-led n done = led-stands g mine middle new group_members n done now is (subst (StoreStands middle.vault.memory) made-now led_is.stands)
+    stands-led n done = led-is g mine middle new group_members n done StoreStands now is (subst (StoreStands middle.vault.memory) made-now led_is.stands)
 
     -- what it did, with the vault after it
     did-led : new.vault ≡ middle.vault → Did g now.store (led now group_members) mine new

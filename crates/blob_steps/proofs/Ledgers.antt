@@ -1,23 +1,17 @@
 -- A group is judged over the program's store as over the store that it is at.
-use Rattle.std.proofs.Common.{◌≡◌, ℕ, suc, false, List, [], ◌∷◌, ◌++◌, map, Option, Some, None, refl, sym, ◌∙◌, ap}
+use Rattle.std.proofs.Common.{◌≡◌, ℕ, suc, false, List, [], ◌∷◌, map, Option, Some, None, refl, ◌∙◌, ap}
 use Rattle.std.proofs.Math.Path.{fun_ext}
 use Rattle.std.specs.Prelude.{option_map, slice_get}
-use Rattle.std.specs.List.{flat_map}
 use Rattle.std.specs.FinMap.{FinMap, entries, entries_sorted, get, get-entries}
 use Rattle.group_plan.specs.Plans.{holding_of as state_holding, holdings_by}
-use Rattle.relation.specs.Parts.{owned_by}
-use Rattle.store_model.specs.Holds.{place_of}
 use Rattle.store_model.specs.Key.{key_order}
 use Rattle.store_model.specs.Layout.{data_pages}
 use Rattle.store_model.specs.Placing.{Need}
-use Rattle.store_model.specs.Space.{blocks_of}
-use Rattle.store_model.specs.Standing.{BothStand, SameObjects}
 use Rattle.store_model.specs.State.{State}
 use Rattle.store_model.specs.Store as model
 use Rattle.store_model.specs.Store.{Object, Placement, content_at}
 use Rattle.store_model.specs.Transaction.{Change as ModelChange}
-use Rattle.store_model.specs.World.{holding_of, holdings, ledger_of, need_of, needs_of, owned_blocks, states_bytes}
-use Rattle.store_model.proofs.EntryLaws.{entries-alike}
+use Rattle.store_model.specs.World.{holding_of, holdings, ledger_of, need_of, needs_of, states_bytes}
 use Rattle.store_model.proofs.MapLaws.{entries-map_values}
 use Rattle.store_model.proofs.SortedLaws.{find-at}
 use Rattle.txn.specs.Requests.{asked_of, model_change, transaction_of}
@@ -26,67 +20,39 @@ use Rattle.txn.specs.Txns.{NoAppends, is_append}
 use Rattle.txn.specs.declared.change.Change.{Change}
 use Rattle.txn.specs.declared.change.Change.TheVariants as change
 use Rattle.txn.specs.declared.request.Request.{Request}
-use Rattle.vault.specs.Leads.{StoreStands, ledger_in}
+use Rattle.vault.specs.Leads.{ledger_in}
 use Rattle.vault.specs.declared.memory.Memory.{Memory}
-use Rattle.vault.proofs.Ledgers.{bytes-alike}
-
--- a state's place is its object's
-place-alike : (state : Option State) (object : Option Object) → BothStand state object
-    → option_map place_of state ≡ option_map (λ (o : Object). o.place) object
-place-alike None None stands = refl
-place-alike (Some state) (Some object) stands = ap Some stands.place
-place-alike None (Some object) stands = absurd stands
-place-alike (Some state) None stands = absurd stands
-
--- keys with the places of their states, or of their objects
-abbrev pub state_places : List (List ℕ × State) → List (List ℕ × Placement)
-state_places es = map (λ e. (e.0, place_of e.1)) es
-
-abbrev pub object_places : List (List ℕ × Object) → List (List ℕ × Placement)
-object_places es = map (λ e. (e.0, e.1.place)) es
-
-places-alike : (states : FinMap key_order State) (objects : FinMap key_order Object)
-    → SameObjects states objects → state_places (entries states) ≡ object_places (entries objects)
-places-alike states objects stand =
-    entries-alike place_of (λ (o : Object). o.place) states objects
-    (λ key. place-alike (get states key) (get objects key) (stand key))
-
-state_blocks : (es : List (List ℕ × State))
-    → flat_map (λ e. blocks_of e.1) (state_places es) ≡ flat_map (λ e. blocks_of (place_of e.1)) es
-state_blocks [] = refl
-state_blocks (e ∷ es) = ap (λ xs. blocks_of (place_of e.1) ++ xs) (state_blocks es)
-
-object_blocks : (es : List (List ℕ × Object))
-    → flat_map (λ e. blocks_of e.1) (object_places es) ≡ flat_map (λ e. blocks_of e.1.place) es
-object_blocks [] = refl
-object_blocks (e ∷ es) = ap (λ xs. blocks_of e.1.place ++ xs) (object_blocks es)
-
--- states own what their objects do
-pub owned-alike : (states : FinMap key_order State) (objects : FinMap key_order Object)
-    → SameObjects states objects → owned_by states ≡ owned_blocks objects
-owned-alike states objects stand =
-    sym (state_blocks (entries states))
-    ∙ ap (λ (es : List (List ℕ × Placement)). flat_map (λ e. blocks_of e.1) es) (places-alike states objects stand)
-    ∙ object_blocks (entries objects)
+use Rattle.blob_steps.specs.Known.{AllKnown, BothKnown, StoreKnown}
+use Rattle.vault.proofs.Ledgers.{BothPlaced, SamePlaces, bytes-placed, owned-placed}
 
 -- what a state says of its object besides the content
-holding-alike : (state : Option State) (object : Option Object) → BothStand state object → option_map state_holding state ≡ option_map holding_of object
+holding-alike : (state : Option State) (object : Option Object) → BothKnown state object → option_map state_holding state ≡ option_map holding_of object
 holding-alike None None stands = refl
-holding-alike (Some state) (Some object) stands = λ i. Some (record { size = stands.tells.size i; number = stands.number i; place = stands.place i })
+holding-alike (Some state) (Some object) stands = λ i. Some (record { size = stands.size i; number = stands.number i; place = stands.place i })
 holding-alike None (Some object) stands = absurd stands
 holding-alike (Some state) None stands = absurd stands
 
 -- what the states say of each key's object
-pub holdings-alike : (states : FinMap key_order State) (objects : FinMap key_order Object) → SameObjects states objects → holdings_by states ≡ holdings objects
+pub holdings-alike : (states : FinMap key_order State) (objects : FinMap key_order Object) → AllKnown states objects → holdings_by states ≡ holdings objects
 holdings-alike states objects same = fun_ext (λ key. holding-alike (get states key) (get objects key) (same key))
 
+-- a state has its object's place
+BothPlaced-known : (state : Option State) (object : Option Object) → BothKnown state object → BothPlaced state object
+BothPlaced-known None None known = tt
+BothPlaced-known (Some state) (Some object) known = record { sound = known.sound; place = known.place }
+BothPlaced-known None (Some object) known = known
+BothPlaced-known (Some state) None known = known
+
+places-known : (states : FinMap key_order State) (objects : FinMap key_order Object) → AllKnown states objects → SamePlaces states objects
+places-known states objects known key = BothPlaced-known (get states key) (get objects key) (known key)
+
 -- what a group is judged by
-pub ledger-stands : (mine : Memory) (store : model.Store) → StoreStands mine store → ledger_in mine ≡ ledger_of mine.layout store
+pub ledger-stands : (mine : Memory) (store : model.Store) → StoreKnown mine store → ledger_in mine ≡ ledger_of mine.layout store
 ledger-stands mine store stands = λ i. record {
   held = holdings-alike mine.relation.states store.objects stands.objects i;
   last = stands.last i;
-  owned = owned-alike mine.relation.states store.objects stands.objects i;
-  bytes = bytes-alike mine.relation.states store.objects stands.objects i;
+  owned = owned-placed mine.relation.states store.objects (places-known mine.relation.states store.objects stands.objects) i;
+  bytes = bytes-placed mine.relation.states store.objects (places-known mine.relation.states store.objects stands.objects) i;
   room = states_bytes mine.layout;
   pages = data_pages mine.layout;
 }

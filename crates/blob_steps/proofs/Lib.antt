@@ -20,3 +20,5 @@ pub mod Shows
 pub mod Values
 pub mod Opening
 pub mod Checkpoints
+pub mod Breaking
+pub mod Knowns

@@ -30,13 +30,13 @@ use Rattle.blob_steps.specs.declared.fault.StoreFault.TheVariants as store_fault
 use Rattle.store_model.specs.State.{State}
 use Rattle.store_model.specs.Verify.{IsDamage}
 use Rattle.blob_steps.specs.Sessions.{HasLooked, IsPut, LooksTo, look_action, looked_line}
-use Rattle.blob_steps.specs.Steps.{CameTo, Did, IsWorld, Stepped, WorldStands}
+use Rattle.blob_steps.specs.Steps.{CameTo, Did, IsWorld, Stepped, WorldKnown, WorldStands}
 use Rattle.blob_steps.specs.declared.session.Looked.{Looked}
 use Rattle.blob_steps.specs.declared.session.Looked.TheVariants as looked
 use Rattle.blob_steps.specs.declared.world.World.{World}
 use Rattle.blob_steps.proofs.Answering.{Did-none, transact-still}
 use Rattle.blob_steps.proofs.Doing.{Did-reads}
-use Rattle.blob_steps.proofs.Turning.{LeavesQueue, Moves, Moves-alone, same-self, session-here}
+use Rattle.blob_steps.proofs.Turning.{LeavesQueue, Moves, Moves-alone, WorldKnown-stands, same-self, session-here}
 
 look-leaves : (one : Look) (key : List ℕ) → LeavesQueue (look_action one key)
 look-leaves look.Get key = λ stage queue number. refl
@@ -65,7 +65,7 @@ came-as {D = D} g world outcome text mine new later same came = subst (λ (w : W
 
 module _ {D : Type 0} (g : Ghosts D) (mine new : World D) (number : ℕ) (key : List ℕ) (found : Looked) (sound : IsWorld g mine) (left : WasLooked g mine new)
     (done : HasLooked mine.vault.memory mine.sessions.items new.sessions.items number key found) where
-  looks-in : (one : Look) (world : model.World) → WorldStands mine world → LooksTo one world.store (world.sessions number) key number done.later found
+  pub looks-in : (one : Look) (world : model.World) → WorldKnown mine world → LooksTo one world.store (world.sessions number) key number done.later found
   looks-in one world is = done.looks one (world.sessions number) world.store is.store (is.sessions number done.was done.set_is.there)
 
   pub look-moves : (one : Look) → Moves g mine new number (look_action one key)
@@ -118,7 +118,7 @@ module _ {D : Type 0} (g : Ghosts D) (mine new : World D) (number : ℕ) (key : 
         → text ≡ [] ++ answer_text (answer.Session number (model_line line) None) → CameTo g world (transact world number (look_action one key)) text mine new
     came-line text line found_is same text_is =
         let line_is : shown_line ≡ model_line line =
-        (looks-in one world is).line_is
+        (looks-in one world (WorldKnown-stands mine world is)).line_is
         ∙ ap (λ (f : Looked). looked_line one world.store (turn.turn world.store (world.sessions number) (look_action one key)).stage key f) found_is in
         came-look text (Did-none g world.store (transact world number (look_action one key)) mine new (transact-still world number (look_action one key)) same)
         (λ told stand. text_is ∙ ap (λ (l : answer.AnswerLine). answer_text (answer.Session number l None)) (sym line_is))
@@ -132,7 +132,7 @@ module _ {D : Type 0} (g : Ghosts D) (mine new : World D) (number : ℕ) (key : 
         → text ≡ [] ++ answer_text (answer.Session number (model_line line) None) → CameTo g world (transact world number (look_action one key)) text mine new
     came-stored text shown line shown_is found_is only reads shows text_is =
         let line_is : shown_line ≡ show_of one (content_at world.store key) =
-        (looks-in one world is).line_is
+        (looks-in one world (WorldKnown-stands mine world is)).line_is
         ∙ ap (λ (f : Looked). looked_line one world.store (turn.turn world.store (world.sessions number) (look_action one key)).stage key f) found_is in
         came-look text
         (Did-reads g world.store (transact world number (look_action one key)) mine new (transact-still world number (look_action one key)) left.memory only reads)
@@ -150,7 +150,7 @@ module _ {D : Type 0} (g : Ghosts D) (mine new : World D) (number : ℕ) (key : 
         → CameTo g world (transact world number (look_action one key)) text mine new
     came-own text found_is same shows =
         let looks : LooksTo one world.store (world.sessions number) key number done.later looked.Own =
-        subst (LooksTo one world.store (world.sessions number) key number done.later) found_is (looks-in one world is) in
+        subst (LooksTo one world.store (world.sessions number) key number done.later) found_is (looks-in one world (WorldKnown-stands mine world is)) in
         let session : turn.Session = session_after (world.sessions number) (look_action one key) (turn.turn world.store (world.sessions number) (look_action one key)) in
         let here : with_session world.sessions number session number ≡ session = session-here world.sessions number session number (same-self number) in
         let put : IsPut (after.sessions number).stage key looked.Own = subst (λ (s : turn.Session). IsPut s.stage key looked.Own) (sym here) looks.put in

@@ -18,7 +18,8 @@ use Rattle.store_model.specs.World.{group_in, needs_of, reply_line, reply_text, 
 use Rattle.txn.specs.Requests.{asked_of, transaction_of as requested}
 use Rattle.txn.specs.Txns.{NoAppends}
 use Rattle.txn.specs.declared.request.Request.{Request}
-use Rattle.vault.specs.Leads.{StoreStands, ledger_in}
+use Rattle.blob_steps.specs.Known.{StoreKnown}
+use Rattle.vault.specs.Leads.{ledger_in}
 use Rattle.vault.specs.Pours.{AreWhole, made_by, made_one}
 use Rattle.vault.specs.declared.memory.Memory.{Memory}
 use Rattle.blob_steps.proofs.Ledgers.{asked-stands, ledger-stands}
@@ -113,7 +114,7 @@ requests-asked store sessions (q ∷ queue) whole stand = λ i.
     ∷ requests-asked store sessions queue (λ k d less. whole (suc k) d (omega (arith, less))) (λ k request is. stand (suc k) request is) i
 
 -- the group of the program is that of the definitions
-pub group-stands : (mine : Memory) (queue : List Request) (now : world.World) → StoreStands mine now.store → AreWhole queue
+pub group-stands : (mine : Memory) (queue : List Request) (now : world.World) → StoreKnown mine now.store → AreWhole queue
     → now.queue ≡ map (λ (r : Request). r.session) queue → AllRequested now.sessions queue → group_in mine.layout now ≡ members_of (ledger_in mine) queue
 group-stands mine queue now stands whole queue_is stand =
     ap (λ (ledger : Ledger). members_from ledger (no_tally ledger) (world.requests_of now)) (sym (ledger-stands mine now.store stands))

@@ -34,7 +34,7 @@ use Rattle.store_model.specs.Layout.{Layout}
 use Rattle.store_model.specs.Play.{AtInputEnd, AtMalformed, AtUnbuilt, PlayedLine, play, played_line, step_play, store_behind, taken_in, text_of}
 use Rattle.store_model.specs.Script.{Asks, Skipped, Step, lines_of}
 use Rattle.store_model.specs.Space.{Block}
-use Rattle.store_model.specs.Standing.{AllHeld, AllStand, BothStand, SameObjects}
+use Rattle.store_model.specs.Standing.{AllHeld, AllStand}
 use Rattle.store_model.specs.State.{State}
 use Rattle.store_model.specs.Store.{Object, Store}
 use Rattle.store_model.proofs.ImageLaws.{wider, wrote_none, wrote_then}

@@ -13,17 +13,19 @@ use Rattle.store_model.specs.Half.{picked}
 use Rattle.store_model.specs.Images.{Wrote}
 use Rattle.store_model.specs.Key.{key_order}
 use Rattle.store_model.specs.Layout.{Layout, data_page}
-use Rattle.store_model.specs.Play.{PlayedLine, taken_in}
+use Rattle.store_model.specs.Play.{taken_in}
 use Rattle.store_model.specs.Reading.{Found, Opened, Reads}
-use Rattle.store_model.specs.Space.{Block}
+use Rattle.store_model.specs.Report.{Damage}
+use Rattle.store_model.specs.Script.{lines_of}
+use Rattle.store_model.specs.World.{world_over}
+use Rattle.store_model.proofs.SurvivalLaws.{found-one}
 use Rattle.store_model.specs.State.{State}
 use Rattle.store_model.specs.Store.{Object, Store, empty_store}
-use Rattle.store_model.specs.Survival.{BothTold, NoneFree, ReadsAs}
+use Rattle.store_model.specs.Survival.{BothTold, ReadsAs}
 use Rattle.store_model.proofs.FurtherLaws.{TakesEach-layout}
 use Rattle.store_model.proofs.HalfRefusalLaws.{FindsHalf-one}
 use Rattle.store_model.proofs.ImageLaws.{wider, wrote_then}
 use Rattle.vault.specs.Leads.{Costs, IsLeadPage}
-use Rattle.vault.specs.declared.memory.Memory.{Memory}
 use Rattle.std.proofs.Common.{Result, Ok, Err}
 use Rattle.std.proofs.lemmas.Bool.{cases_lt}
 use Rattle.std.specs.Prelude.{IsErrOf}
@@ -46,9 +48,11 @@ use Rattle.store_model.proofs.ReadingOneLaws.{Reads-one}
 use Rattle.vault.specs.Leads.{IsOpenedAs, StoreStands}
 use Rattle.vault.specs.Vaults.{found_of}
 use Rattle.vault.specs.declared.vault.Vault.{Vault}
+use Rattle.blob_steps.specs.Breaks.{ComesTo, EndsAtBreak, IsBrokenGet}
+use Rattle.blob_steps.specs.Known.{FoundKnown, StoreKnown}
 use Rattle.blob_steps.specs.Forms.{DidFresh, DidSteps, IsDamageOfState, IsRefusal}
 use Rattle.blob_steps.specs.Going.{IsAccepted}
-use Rattle.blob_steps.specs.Runs.{Ended, EndedSo, OnPlayed, PagesAre}
+use Rattle.blob_steps.specs.Runs.{Ended, EndedSo, OnPlayed}
 use Rattle.blob_steps.proofs.OnTheWay.{EndedSo-no_disk, EndedSo-no_memory, Ended-no_disk, Ended-no_memory}
 
 -- what holds of a run that was played to an end
@@ -150,6 +154,11 @@ pub record RanOpened {S K D : Type 0} (source : source_trait.Ghosts S) (sink : s
   pub ended : (start : Store) (behind : Cost) → StoreStands vault.memory start → behind.gate ≡ vault.memory.log.gate
       → (IsTrue g.tells → AllHeld (g.story vault.disk).reads vault.memory.layout start.objects)
       → Ended g vault.memory.layout start behind behind (sink.frugal sink_old) (source.left source_old) (sink.taken sink_old) (sink.taken sink_new) vault.disk disk_new how
+  pub breaks : IsTrue g.tells → (image : Image) (start : Store) (script : List ℕ) (one : Damage) → StoreKnown vault.memory start
+      → ((at : ℕ) → (g.story vault.disk).reads (data_page vault.memory.layout + at) ≡ image (data_page vault.memory.layout + at))
+      → source.left source_old ≡ Some script
+      → ComesTo vault.memory.layout (IsBrokenGet image (data_page vault.memory.layout) vault.memory.relation.states) one 1 (lines_of script) (world_over start)
+      → EndsAtBreak one how
   pub so : EndedSo (source.left source_old) (sink.taken sink_old) (sink.taken sink_new) how
   pub own : IsAccepted how
   pub among : IsDamageOfState how
@@ -172,6 +181,14 @@ DidSteps-opened source sink g cost source_old sink_old disk_old vault how source
             (metadata-wrote g disk_old vault.disk (found_of vault.memory) (ran.found told) ran.wrote) costs.spent
             (ran.ended start (with_opening start cost) at.stands (sym costs.gate) held)),
       );
+  broken = λ told found reads start known script left_is one comes.
+      let image : Image = (g.story disk_old).reads in
+      let same : found ≡ found_of vault.memory = found-one (g.size disk_old) image found (found_of vault.memory) reads (ran.found told) in
+      let mine : FoundKnown (found_of vault.memory) start = subst (λ (f : Found). FoundKnown f start) same known in
+      let wrote = metadata-wrote g disk_old vault.disk (found_of vault.memory) (ran.found told) ran.wrote told in
+      ran.breaks told image start script one (record { objects = mine.objects; last = mine.last })
+      (λ at. wrote.reads (data_page vault.memory.layout + at) (λ before. omega (arith, before))) left_is
+      (subst (λ (f : Found). ComesTo f.layout (IsBrokenGet image (data_page f.layout) f.states) one 1 (lines_of script) (world_over start)) same comes);
   so = λ no. ran.so;
   damage = ran.among;
 }
@@ -192,6 +209,7 @@ DidSteps-unopened source sink g cost from to disk_old disk_new (recover_fault.Re
       (refl, record { reads = read; alone = refl; only = untouched why refl });
   opened = λ told is. absurd is;
   ended = λ told layout start reads. absurd (never-both (g.size disk_old) (g.story disk_old).reads (refusal_of why) reads.found (read told) reads.reads);
+  broken = λ told found reads start known script left_is one comes. absurd (never-both (g.size disk_old) (g.story disk_old).reads (refusal_of why) found (read told) reads);
   so = λ no. absurd (no tt);
   damage = tt;
 }
@@ -199,6 +217,7 @@ DidSteps-unopened source sink g cost from to disk_old disk_new recover_fault.Fai
   refused = λ why is. absurd (cc is);
   opened = λ told is. absurd is;
   ended = λ told layout start reads. (tt, Ended-no_disk g layout start cost (with_opening start cost) (sink.frugal to) (source.left from) (sink.taken to) disk_old disk_new);
+  broken = λ told found reads start known script left_is one comes. tt;
   so = λ no. EndedSo-no_disk (source.left from) (sink.taken to);
   damage = tt;
 }
@@ -206,6 +225,7 @@ DidSteps-unopened source sink g cost from to disk_old disk_new recover_fault.Out
   refused = λ why is. absurd (cc is);
   opened = λ told is. absurd is;
   ended = λ told layout start reads. (tt, Ended-no_memory g layout start cost (with_opening start cost) (sink.frugal to) (source.left from) (sink.taken to) disk_old disk_new);
+  broken = λ told found reads start known script left_is one comes. tt;
   so = λ no. EndedSo-no_memory (source.left from) (sink.taken to);
   damage = tt;
 }

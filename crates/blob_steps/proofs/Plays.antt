@@ -11,7 +11,7 @@ use Rattle.store_model.specs.World.{Outcome}
 use Rattle.store_model.specs.Placing.{new_blocks}
 use Rattle.store_model.specs.Layout.{Layout}
 use Rattle.store_model.specs.Play.{AtInputEnd, AtMalformed, AtUnbuilt, End, Played, PlayedLine, commits_in, line_play, play, play_lines, played_line, played_then, step_play, store_behind, taken_in, text_of}
-use Rattle.store_model.specs.Script.{Action, Asks, Checkpoint, Close, Find, Lead, Line, Ls, Malformed, Open, Order, Pread, Session, Skipped, Step, Transact, line_at, lines_of}
+use Rattle.store_model.specs.Script.{Asks, Checkpoint, Close, Find, Lead, Line, Ls, Malformed, Open, Order, Pread, Session, Skipped, Step, Transact, line_at, lines_of}
 use Rattle.store_model.specs.Store.{Store}
 use Rattle.store_model.specs.Turn as turn
 

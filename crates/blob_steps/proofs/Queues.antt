@@ -13,12 +13,14 @@ use Rattle.store_model.specs.Store.{Store, empty_store}
 use Rattle.txn.specs.Requests.{transaction_of}
 use Rattle.txn.specs.Txns.{NoAppends}
 use Rattle.txn.specs.declared.request.Request.{Request}
+use Rattle.blob_steps.specs.Known.{StoreKnown}
 use Rattle.blob_steps.specs.Sessions.{Asks, IsSet, SessionStands, StageStands}
-use Rattle.blob_steps.specs.Steps.{AreNew, AreSessions, IsWorld, RequestStands, TakesTurn, WorldStands}
+use Rattle.blob_steps.specs.Steps.{AreNew, AreSessions, IsWorld, RequestStands, TakesTurn, WorldIs}
 use Rattle.disk_model.specs.declared.disk.Disk.{Ghosts}
 use Rattle.vault.specs.Leads.{StoreStands}
 use Rattle.vault.specs.Pours.{AreWhole}
 use Rattle.vault.specs.Vaults.{IsVault}
+use Rattle.vault.specs.declared.memory.Memory.{Memory}
 use Rattle.vault.specs.declared.vault.Vault.{Vault}
 use Rattle.blob_steps.specs.declared.session.Session.{Session}
 use Rattle.blob_steps.specs.declared.session.Stage.{Stage}
@@ -59,9 +61,9 @@ none-there : {X : Type 0} (xs : List X) (i : ℕ) (x : X) → xs ≡ [] → slic
 none-there {X = X} xs i x none is = let gone : None ≡ Some x = sym (ap (λ (ys : List X). slice_get ys i) none) ∙ is in absurd (cc gone)
 
 -- the world of a run that begins
-pub WorldStands-new : {D : Type 0} (mine : World D) (store : Store) → AreNew mine.sessions.items → mine.queue ≡ [] → StoreStands mine.vault.memory store
-    → WorldStands mine (world_over store)
-WorldStands-new mine store new queue stands = record {
+pub WorldIs-new : {D : Type 0} (Is : Memory → Store → Type 0) (mine : World D) (store : Store) → AreNew mine.sessions.items → mine.queue ≡ [] → Is mine.vault.memory store
+    → WorldIs Is mine (world_over store)
+WorldIs-new Is mine store new queue stands = record {
   store = stands;
   sessions = λ number one is. (new number one is).1;
   queue = sym (ap (map (λ (r : Request). r.session)) queue);
@@ -146,13 +148,13 @@ module _ {D : Type 0} (g : Ghosts D) (mine new : World D) (number : ℕ) (old la
     ];
   }
 
-  queued-stands : (world : model.World) → WorldStands mine world → WorldStands new (turned world number turn.Commit (turn.turn world.store (world.sessions number) turn.Commit)).world
-  queued-stands world is =
+  queued-is : (Is : Memory → Store → Type 0) (world : model.World) → WorldIs Is mine world → WorldIs Is new (turned world number turn.Commit (turn.turn world.store (world.sessions number) turn.Commit)).world
+  queued-is Is world is =
       let are : AreSessions mine world.sessions = record { sessions = is.sessions; requests = is.requests } in
       let asks = asks-in world.sessions are in
       let after = queued-sessions world.store world.sessions are in
       record {
-        store = subst (λ (v : Vault D). StoreStands v.memory world.store) (sym done.vault) is.store;
+        store = subst (λ (v : Vault D). Is v.memory world.store) (sym done.vault) is.store;
         sessions = after.sessions;
         queue = ap (λ (s : turn.Stage). queue_after turn.Commit s world.queue number) asks.opened
             ∙ ap (λ (ns : List ℕ). ns ++ number ∷ []) is.queue
@@ -181,7 +183,8 @@ module _ {D : Type 0} (g : Ghosts D) (mine new : World D) (number : ℕ) (old la
         line_is = λ world is.
             sym (ap (λ (s : turn.Stage). (stage_turn world.store s turn.Commit).line)
             (asks-in world.sessions (record { sessions = is.sessions; requests = is.requests })).opened);
-        stands = queued-stands;
+        stands = queued-is StoreStands;
+        knows = queued-is StoreKnown;
         sound = record {
           some = (sessions-after empty_store sound.some.0, queued-sessions empty_store sound.some.0 sound.some.1);
           vault = subst (λ (v : Vault D). IsVault g v.disk v.memory v.shut) (sym done.vault) sound.vault;

@@ -22,7 +22,7 @@ use Rattle.txn.specs.declared.refusal.TxnRefusal.{TxnRefusal}
 use Rattle.txn.specs.declared.refusal.TxnRefusal.TheVariants as refusal
 use Rattle.store_model.specs.World.{transaction_of}
 use Rattle.blob_script.specs.declared.answer.AnswerLine.{AnswerLine}
-use Rattle.blob_steps.specs.Sessions.{LooksTo, SessionStands, StageStands, TurnsTo, look_action, refused_line}
+use Rattle.blob_steps.specs.Sessions.{LooksTo, SessionStands, ShowsStored, StageStands, TurnsTo, look_action, refused_line}
 use Rattle.blob_steps.specs.declared.session.Looked.TheVariants as looked
 use Rattle.blob_steps.specs.declared.session.Session.{Session}
 use Rattle.blob_steps.specs.declared.session.Stage.TheVariants as stage
@@ -78,6 +78,39 @@ content-there : (object : Option Object) → is_some (content_of_object object) 
 content-there None = refl
 content-there (Some object) = refl
 
+-- a key without a value
+value-missing : (one : Option model.Change) (stored : Option (List ℕ)) (there : Bool) → is_some stored ≡ there → value_by one there ≡ value.Absent
+    → changed_content one stored ≡ None
+value-missing None None there is none = refl
+value-missing None (Some content) false is none = absurd (cc is)
+value-missing None (Some content) true is none = absurd (cc none)
+value-missing (Some (model.Put content)) stored there is none = absurd (cc none)
+value-missing (Some (model.More bytes)) stored there is none = absurd (cc none)
+value-missing (Some model.Gone) stored there is none = refl
+
+-- what the store has is shown where the transaction has no change of the key, and the store has it
+stored-known : (one : Option model.Change) (now : Option ℕ) → value_by one (is_some now) ≡ value.Stored → (one ≡ None) × ((born : ℕ) × (now ≡ Some born))
+stored-known None None is = absurd (cc is)
+stored-known None (Some born) is = (refl, (born, refl))
+stored-known (Some (model.Put content)) now is = absurd (cc is)
+stored-known (Some (model.More bytes)) now is = absurd (cc is)
+stored-known (Some model.Gone) now is = absurd (cc is)
+
+value-apart : value.Stored ≡ value.Absent → ⊥
+value-apart is = absurd (cc is)
+
+-- a change is there, or none
+put-changed : (one : Option model.Change) (change : model.Change) → one ≡ Some change → one ≡ None → ⊥
+put-changed one change there none = let both : Some change ≡ None = sym there ∙ none in absurd (cc both)
+
+true-false : (b : Bool) → b ≡ true → b ≡ false → ⊥
+true-false b is not_so = let both : true ≡ false = sym is ∙ not_so in absurd (cc both)
+
+-- nothing is shown of a key without a value
+show-none : (one : Look) → show_of one None ≡ answer.Absent
+show-none look.Get = refl
+show-none look.Stat = refl
+
 module _ (store : Store) (t : Transaction) (key : List ℕ) (now : Option ℕ) (number_is : number_at store key ≡ now) where
   -- a read that isn't refused
   reading-passes : (next : Option (List ℕ) → Transaction → Turned) → MayRead t key now → reading_turn store t key next ≡ next (value_of store t key) (with_read store.last now t key)
@@ -117,6 +150,20 @@ module _ (mine : Session) (old new : Parts) (store : Store) (theirs : turn.Sessi
     (is : IsOpen mine old new store theirs number key now front) where
   stood : (theirs.stage ≡ turn.Open (transaction_by old)) × (old.session ≡ number) × (old.nth ≡ mine.begun)
   stood = subst (λ s. StageStands s number mine.begun theirs.stage) is.opened is.stands.stage
+
+  -- the transaction of a look that shows what the store has
+  shows-open : (shows : ShowsStored store theirs key) → shows.transaction ≡ transaction_by old
+  shows-open shows = let both : turn.Open shows.transaction ≡ turn.Open (transaction_by old) = sym shows.opened ∙ stood.0 in cc
+
+  fresh-now : ShowsStored store theirs key → is_stale now (transaction_by old) key ≡ false
+  fresh-now shows =
+      ap (λ (n : Option ℕ). is_stale n (transaction_by old) key) (sym is.number_is)
+      ∙ ap (λ (u : Transaction). is_stale (number_at store key) u key) (sym (shows-open shows)) ∙ shows.fresh
+
+  value-stored : ShowsStored store theirs key → value_by (get (transaction_by old).changes key) (is_some now) ≡ value.Stored
+  value-stored shows =
+      ap (λ (c : Option model.Change). value_by c (is_some now)) (ap (λ (u : Transaction). get u.changes key) (sym (shows-open shows)) ∙ shows.unchanged)
+      ∙ ap (λ (n : Option ℕ). value_by None (is_some n)) (sym is.number_is ∙ shows.there)
 
   -- the session after an action that leads to the new transaction
   stands-open : (action : turn.Action) (line : answer.AnswerLine) → turn.begun_after action theirs.stage theirs.begun ≡ theirs.begun
@@ -177,6 +224,10 @@ module _ (mine : Session) (old new : Parts) (store : Store) (theirs : turn.Sessi
             ∙ ap (λ (c : Option model.Change). show_of one (Some (value.own_bytes c))) put_now);
         stands = stands-open (look_action one key) (show_of one (Some put.0)) (look-begun one) turned;
         put = (transaction_by new, ap (λ (done : Turned). done.stage) turned, (put.0, put_now));
+        stored = (
+          λ same. absurd (cc same),
+          λ shows. absurd (put-changed (get t.changes key) (model.Put put.0) put.1 (ap (λ (u : Transaction). get u.changes key) (sym (shows-open shows)) ∙ shows.unchanged)),
+        );
       }
 
   -- a look that is refused leaves the transaction as it was
@@ -192,7 +243,15 @@ module _ (mine : Session) (old new : Parts) (store : Store) (theirs : turn.Sessi
       look-turns one ∙ reading-full store t key now is.number_is (λ v after. record { line = show_of one v; stage = turn.Open after }) refused.0
       ∙ ap (λ (l : answer.AnswerLine). record { line = l; stage = turn.Open t }) (ap (λ (n : ℕ). answer.TooMany n) (sym refused.1) ∙ line_is)
       ∙ ap (λ (p : Parts). record { line = model_line line; stage = turn.Open (transaction_by p) }) (sym same) in
-      record { line_is = ap (λ (done : Turned). done.line) turned; stands = stands-open (look_action one key) (model_line line) (look-begun one) turned; put = tt }
+      record {
+        line_is = ap (λ (done : Turned). done.line) turned;
+        stands = stands-open (look_action one key) (model_line line) (look-begun one) turned;
+        put = tt;
+        stored = (
+          λ same. absurd (cc same),
+          λ shows. absurd (true-false (is_one_too_many t key) refused.0 (ap (λ (u : Transaction). is_one_too_many u key) (sym (shows-open shows)) ∙ shows.few)),
+        );
+      }
   look-refused one (refusal.Stale number_now) line refused told same =
       let t : Transaction = transaction_by old in
       let line_is : answer.Stale number_now ≡ model_line line = cc in
@@ -200,4 +259,68 @@ module _ (mine : Session) (old new : Parts) (store : Store) (theirs : turn.Sessi
       look-turns one ∙ reading-stale store t key now is.number_is (λ v after. record { line = show_of one v; stage = turn.Open after }) refused.0 refused.1
       ∙ ap (λ (l : answer.AnswerLine). record { line = l; stage = turn.Open t }) (ap (λ (n : Option ℕ). answer.Stale n) (sym refused.2) ∙ line_is)
       ∙ ap (λ (p : Parts). record { line = model_line line; stage = turn.Open (transaction_by p) }) (sym same) in
-      record { line_is = ap (λ (done : Turned). done.line) turned; stands = stands-open (look_action one key) (model_line line) (look-begun one) turned; put = tt }
+      record {
+        line_is = ap (λ (done : Turned). done.line) turned;
+        stands = stands-open (look_action one key) (model_line line) (look-begun one) turned;
+        put = tt;
+        stored = (
+          λ same. absurd (cc same),
+          λ shows. absurd (true-false (is_stale now t key) refused.1 (fresh-now shows)),
+        );
+      }
+
+  -- it shows nothing where the key has no value
+  pub look-absent : (one : Look) (line : AnswerLine) → model_line line ≡ answer.Absent → MayRead (transaction_by old) key now
+      → value_by (get (transaction_by old).changes key) (is_some now) ≡ value.Absent → transaction_by new ≡ with_read front now (transaction_by old) key
+      → LooksTo one store theirs key number (record { begun = mine.begun; stage = stage.Open new }) (looked.Line line)
+  look-absent one line line_absent may none new_is =
+      let t : Transaction = transaction_by old in
+      let there : is_some (content_at store key) ≡ is_some now = content-there (get store.objects key) ∙ ap (λ (n : Option ℕ). is_some n) is.number_is in
+      let nothing : changed_content (get t.changes key) (content_at store key) ≡ None = value-missing (get t.changes key) (content_at store key) (is_some now) there none in
+      let after_is : with_read store.last now t key ≡ transaction_by new = ap (λ (n : ℕ). with_read n now t key) is.last ∙ sym new_is in
+      let turned : turn.turn store theirs (look_action one key) ≡ record { line = model_line line; stage = turn.Open (transaction_by new) } =
+      look-turns one
+      ∙ reading-passes store t key now is.number_is (λ v after. record { line = show_of one v; stage = turn.Open after }) may
+      ∙ ap (λ (v : Option (List ℕ)). record { line = show_of one v; stage = turn.Open (with_read store.last now t key) }) nothing
+      ∙ ap (λ (l : answer.AnswerLine). record { line = l; stage = turn.Open (with_read store.last now t key) }) (show-none one ∙ sym line_absent)
+      ∙ ap (λ (u : Transaction). record { line = model_line line; stage = turn.Open u }) after_is in
+      record {
+        line_is = ap (λ (done : Turned). done.line) turned;
+        stands = stands-open (look_action one key) (model_line line) (look-begun one) turned;
+        put = tt;
+        stored = (
+          λ same. absurd (cc same),
+          λ shows. absurd (value-apart (sym (value-stored shows) ∙ none)),
+        );
+      }
+
+  -- it shows what the store has
+  pub look-stored : (one : Look) → MayRead (transaction_by old) key now → value_by (get (transaction_by old).changes key) (is_some now) ≡ value.Stored
+      → transaction_by new ≡ with_read front now (transaction_by old) key
+      → LooksTo one store theirs key number (record { begun = mine.begun; stage = stage.Open new }) looked.Stored
+  look-stored one may from_store new_is =
+      let t : Transaction = transaction_by old in
+      let known = stored-known (get t.changes key) now from_store in
+      let after_is : with_read store.last now t key ≡ transaction_by new = ap (λ (n : ℕ). with_read n now t key) is.last ∙ sym new_is in
+      let turned : turn.turn store theirs (look_action one key) ≡ record { line = show_of one (content_at store key); stage = turn.Open (transaction_by new) } =
+      look-turns one
+      ∙ reading-passes store t key now is.number_is (λ v after. record { line = show_of one v; stage = turn.Open after }) may
+      ∙ ap (λ (c : Option model.Change). record { line = show_of one (changed_content c (content_at store key)); stage = turn.Open (with_read store.last now t key) }) known.0
+      ∙ ap (λ (u : Transaction). record { line = show_of one (content_at store key); stage = turn.Open u }) after_is in
+      record {
+        line_is = ap (λ (done : Turned). done.line) turned;
+        stands = stands-open (look_action one key) (show_of one (content_at store key)) (look-begun one) turned;
+        put = tt;
+        stored = (
+          λ same. record {
+            transaction = t;
+            opened = stood.0;
+            few = may.room;
+            fresh = ap (λ (n : Option ℕ). is_stale n t key) is.number_is ∙ may.fresh;
+            unchanged = known.0;
+            born = known.1.0;
+            there = is.number_is ∙ known.1.1;
+          },
+          λ shows. refl,
+        );
+      }

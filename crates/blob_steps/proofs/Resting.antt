@@ -1,5 +1,5 @@
 -- A vault's disk at rest, and the contents that it holds.
-use Rattle.std.proofs.Common.{◌≡◌, ℕ, ◌≤◌, IsTrue, List, ◌++◌, Option, Some, None, inl, inr, refl, sym, ap, subst, arith}
+use Rattle.std.proofs.Common.{◌≡◌, ℕ, IsTrue, List, ◌++◌, Option, Some, None, inl, inr, refl, subst, arith}
 use Rattle.std.specs.FinMap.{FinMap, get}
 use Rattle.disk_model.specs.declared.disk.Disk.{Ghosts}
 use Rattle.store_model.specs.Disk.{Image}
@@ -12,7 +12,7 @@ use Rattle.store_model.specs.Store.{Object, Store}
 use Rattle.store_model.specs.Survival.{ReadsAs}
 use Rattle.store_model.proofs.SurvivalHeldLaws.{ReadsAs-standing}
 use Rattle.vault.specs.Leads.{IsLeadPage, StoreStands}
-use Rattle.vault.specs.Vaults.{IsVault, found_of}
+use Rattle.vault.specs.Vaults.{found_of}
 use Rattle.blob_steps.specs.Runs.{RestsAt}
 use Rattle.blob_steps.specs.Steps.{IsWorld}
 use Rattle.blob_steps.specs.declared.world.World.{World}

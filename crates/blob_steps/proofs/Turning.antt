@@ -22,8 +22,9 @@ use Rattle.store_model.specs.World.{with_session}
 use Rattle.store_model.proofs.SortedLaws.{keys_total}
 use Rattle.txn.specs.Requests.{transaction_of}
 use Rattle.txn.specs.declared.request.Request.{Request}
+use Rattle.blob_steps.specs.Known.{BothKnown, StoreKnown}
 use Rattle.blob_steps.specs.Sessions.{HasTurned, IsNotOpen, IsSet, SessionStands, StageStands, TurnsSomehow, TurnsTo}
-use Rattle.blob_steps.specs.Steps.{AreSessions, HaveBegun, IsWorld, RequestStands, TakesTurn, WorldStands}
+use Rattle.blob_steps.specs.Steps.{AreSessions, HaveBegun, IsWorld, RequestStands, TakesTurn, WorldIs, WorldKnown, WorldStands}
 use Rattle.blob_steps.specs.declared.session.Session.{Session}
 use Rattle.blob_steps.specs.declared.session.Stage.{Stage}
 use Rattle.blob_steps.specs.declared.session.Stage.TheVariants.{Free, Open, Waiting}
@@ -171,10 +172,35 @@ waits-set old new number was later at one set_is waits there waiting =
 pub sixteen-set : (old new : List Session) (number : ℕ) (was later : Session) → IsSet old new number was later → length old ≡ 16 → length new ≡ 16
 sixteen-set old new number was later set_is sixteen = ap (λ (xs : List Session). length xs) set_is.new_is ∙ length-set old number later ∙ sixteen
 
+-- a state that stands for an object is that of it
+BothKnown-stands : (state : Option State) (object : Option Object) → BothStand state object → BothKnown state object
+BothKnown-stands None None stands = tt
+BothKnown-stands None (Some object) stands = stands
+BothKnown-stands (Some state) None stands = stands
+BothKnown-stands (Some state) (Some object) stands = record { sound = stands.sound; number = stands.number; place = stands.place; size = stands.tells.size }
+
+-- a store that memory is at is known
+pub StoreKnown-stands : (mine : Memory) (store : Store) → StoreStands mine store → StoreKnown mine store
+StoreKnown-stands mine store stands = record {
+  objects = λ key. BothKnown-stands (get mine.relation.states key) (get store.objects key) (stands.objects key);
+  last = stands.last;
+}
+
+-- a world is known whose store is
+pub WorldKnown-from : {D : Type 0} (Is : Memory → Store → Type 0) (mine : World D) (world : model.World) → ((store : Store) → Is mine.vault.memory store → StoreKnown mine.vault.memory store)
+    → WorldIs Is mine world → WorldKnown mine world
+WorldKnown-from Is mine world known is = record { store = known world.store is.store; sessions = is.sessions; queue = is.queue; requests = is.requests }
+
+-- so is one that the program's world is at
+pub WorldKnown-stands : {D : Type 0} (mine : World D) (world : model.World) → WorldStands mine world → WorldKnown mine world
+WorldKnown-stands mine world is = WorldKnown-from StoreStands mine world (λ store stands. StoreKnown-stands mine.vault.memory store stands) is
+
 -- A session of the program's world took its turn, and the world is where that leads.
 pub record Moves {D : Type 0} (g : Ghosts D) (mine new : World D) (number : ℕ) (action : turn.Action) : Type 0 where
   pub stands : (world : model.World) → WorldStands mine world
       → WorldStands new (turned world number action (turn.turn world.store (world.sessions number) action)).world
+  pub knows : (world : model.World) → WorldKnown mine world
+      → WorldKnown new (turned world number action (turn.turn world.store (world.sessions number) action)).world
   pub sound : IsWorld g new
   pub begun : (n : ℕ) → HaveBegun n mine → HaveBegun (n + 1) new
 
@@ -208,19 +234,21 @@ LeavesQueue action = (stage : turn.Stage) (queue : List ℕ) (number : ℕ) → 
 
 module _ {D : Type 0} (g : Ghosts D) (mine new : World D) (number : ℕ) (was later : Session) (action : turn.Action) (sound : IsWorld g mine)
     (alone : Alone g mine new number was later)
-    (turns : (world : model.World) → WorldStands mine world
+    (turns : (world : model.World) → WorldKnown mine world
     → SessionStands later number (session_after (world.sessions number) action (turn.turn world.store (world.sessions number) action)))
     (some : TurnsSomehow was number action later)
-    (queued : (world : model.World) → WorldStands mine world → queue_after action (world.sessions number).stage world.queue number ≡ world.queue) where
+    (queued : (world : model.World) → WorldKnown mine world → queue_after action (world.sessions number).stage world.queue number ≡ world.queue) where
   request-was : (i : ℕ) (request : Request) → slice_get new.queue i ≡ Some request → slice_get mine.queue i ≡ Some request
   request-was i request there = ap (λ (rs : List Request). slice_get rs i) (sym alone.queue) ∙ there
 
-  alone-stands : (world : model.World) → WorldStands mine world → WorldStands new (turned world number action (turn.turn world.store (world.sessions number) action)).world
-  alone-stands world is = record {
-    store = subst (λ (m : Memory). StoreStands m world.store) (sym alone.memory) is.store;
+  alone-is : (Is : Memory → Store → Type 0) → ((store : Store) → Is mine.vault.memory store → StoreKnown mine.vault.memory store) → (world : model.World) → WorldIs Is mine world
+      → WorldIs Is new (turned world number action (turn.turn world.store (world.sessions number) action)).world
+  alone-is Is known world is = record {
+    store = subst (λ (m : Memory). Is m world.store) (sym alone.memory) is.store;
     sessions = sessions-turned mine.sessions.items new.sessions.items number was later world.sessions
-        (session_after (world.sessions number) action (turn.turn world.store (world.sessions number) action)) alone.set_is (turns world is) is.sessions;
-    queue = queued world is ∙ is.queue ∙ ap (map (λ (request : Request). request.session)) (sym alone.queue);
+        (session_after (world.sessions number) action (turn.turn world.store (world.sessions number) action)) alone.set_is
+        (turns world (WorldKnown-from Is mine world known is)) is.sessions;
+    queue = queued world (WorldKnown-from Is mine world known is) ∙ is.queue ∙ ap (map (λ (request : Request). request.session)) (sym alone.queue);
     requests = λ i request there. request-turned world.store world.sessions number action request (is.requests i request (request-was i request there));
   }
 
@@ -238,7 +266,8 @@ module _ {D : Type 0} (g : Ghosts D) (mine new : World D) (number : ℕ) (was la
 
   pub Moves-alone : Moves g mine new number action
   Moves-alone = record {
-    stands = alone-stands;
+    stands = alone-is StoreStands (λ store stands. StoreKnown-stands mine.vault.memory store stands);
+    knows = alone-is StoreKnown (λ store known. known);
     sound = record {
       some = alone-sessions sound.some.0 sound.some.1;
       vault = alone.kept;
@@ -256,13 +285,13 @@ module _ {D : Type 0} (g : Ghosts D) (mine new : World D) (number : ℕ) (was la
 -- The session was answered this line, whatever the world.
 pub TakesTurn-alone : {D : Type 0} (g : Ghosts D) (mine new : World D) (number : ℕ) (was later : Session) (action : turn.Action) (line : answer.AnswerLine) → IsWorld g mine
     → new.vault ≡ mine.vault → Alone g mine new number was later
-    → ((world : model.World) → WorldStands mine world → TurnsTo world.store (world.sessions number) action number later line)
+    → ((world : model.World) → WorldKnown mine world → TurnsTo world.store (world.sessions number) action number later line)
     → TurnsSomehow was number action later
-    → ((world : model.World) → WorldStands mine world → queue_after action (world.sessions number).stage world.queue number ≡ world.queue)
+    → ((world : model.World) → WorldKnown mine world → queue_after action (world.sessions number).stage world.queue number ≡ world.queue)
     → TakesTurn g mine new number action line
 TakesTurn-alone g mine new number was later action line sound same alone turns some queued =
     let moves : Moves g mine new number action = Moves-alone g mine new number was later action sound alone (λ world is. (turns world is).stands) some queued in
-    record { line_is = λ world is. (turns world is).line_is; stands = moves.stands; sound = moves.sound; begun = moves.begun; vault = same }
+    record { line_is = λ world is. (turns world is).line_is; stands = moves.stands; knows = moves.knows; sound = moves.sound; begun = moves.begun; vault = same }
 
 -- A session took its turn over the program's store.
 pub TakesTurn-turned : {D : Type 0} (g : Ghosts D) (mine new : World D) (number : ℕ) (action : turn.Action) (line : answer.AnswerLine) → IsWorld g mine → LeavesQueue action
@@ -283,14 +312,14 @@ not-queued (Open txn) number begun theirs queue closed stands = absurd closed
 not-queued Waiting number begun theirs queue closed stands = ap (λ (s : turn.Stage). queue_after turn.Commit s queue number) stands.1
 
 -- the number of a key's state is that of its object
-pub number-alike : (state : Option State) (object : Option Object) → BothStand state object → option_map (λ (o : Object). o.number) object ≡ option_map (λ (s : State). s.born) state
+pub number-alike : (state : Option State) (object : Option Object) → BothKnown state object → option_map (λ (o : Object). o.number) object ≡ option_map (λ (s : State). s.born) state
 number-alike None None stands = refl
 number-alike None (Some object) stands = absurd stands
 number-alike (Some state) None stands = absurd stands
 number-alike (Some state) (Some object) stands = ap Some (sym stands.number)
 
 -- the number of a key in the store is that of the state that the program found
-pub number-found : {X : Type 0} (now : X → State) (mine : Memory) (store : Store) (key : List ℕ) (found : Option X) → StoreStands mine store
+pub number-found : {X : Type 0} (now : X → State) (mine : Memory) (store : Store) (key : List ℕ) (found : Option X) → StoreKnown mine store
     → option_map now found ≡ get mine.relation.states key → number_at store key ≡ option_map (λ (x : X). (now x).born) found
 number-found now mine store key None is found = number-alike (get mine.relation.states key) (get store.objects key) (is.objects key) ∙ ap (option_map (λ (s : State). s.born)) (sym found)
 number-found now mine store key (Some x) is found = number-alike (get mine.relation.states key) (get store.objects key) (is.objects key) ∙ ap (option_map (λ (s : State). s.born)) (sym found)

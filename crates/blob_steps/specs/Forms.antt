@@ -16,17 +16,21 @@ use Rattle.io_ends.specs.declared.traits.Source as source_trait
 use Rattle.io_ends.specs.declared.traits.Sink as sink_trait
 use Rattle.recover.specs.Openings.{IsMetadata}
 use Rattle.recover.specs.Turns.{IsTurnPage, found_by}
+use Rattle.blob_steps.specs.Breaks.{ComesTo, EndsAtBreak, IsBrokenGet}
 use Rattle.blob_steps.specs.Going.{IsAccepted}
+use Rattle.blob_steps.specs.Known.{FoundKnown}
 use Rattle.blob_steps.specs.Runs.{Closed, Ended, EndedSo, IsRaised, KeepsEnds, counts_of}
 use Rattle.store_model.specs.Cost.{Cost, no_cost, with_format, with_opening}
 use Rattle.store_model.specs.Form.{Check, Form, Format, Fresh, IsForm, IsNoForm, Show, Steps}
-use Rattle.store_model.specs.Layout.{Layout, total_pages}
+use Rattle.store_model.specs.Layout.{Layout, data_page, total_pages}
 use Rattle.store_model.specs.Reading.{Found, Opened, Reads}
-use Rattle.store_model.specs.Report.{format_text}
+use Rattle.store_model.specs.Report.{Damage, format_text}
+use Rattle.store_model.specs.Script.{lines_of}
 use Rattle.store_model.specs.State.{State}
 use Rattle.store_model.specs.Store.{Store, empty_store}
 use Rattle.store_model.specs.Survival.{ReadsAs}
 use Rattle.store_model.specs.Verify.{IsDamage}
+use Rattle.store_model.specs.World.{world_over}
 
 -- the layout of the store that a form makes, where it makes one
 abbrev pub layout_of : Form → Option Layout
@@ -82,6 +86,13 @@ pub record DidSteps {S K D : Type 0} (source : source_trait.Ghosts S) (sink : si
       → ReadsAs (disk.size disk_old) (disk.story disk_old).reads layout start.objects start.last
       → IsAccepted how × Ended disk layout start cost (with_opening start cost) (sink.frugal sink_old) (source.left source_old)
       (sink.taken sink_old) (sink.taken sink_new) disk_old disk_new how
+  -- Over any store: its contents may be damaged, but all else of its objects is known. A script that comes, before it commits a transaction,
+  -- to a get of an object whose state doesn't verify ends at the first of those, with the first of that state's links that fails; or before,
+  -- since an end failed or there was no memory.
+  pub broken : IsTrue disk.tells → (found : Found) → Reads (disk.size disk_old) (disk.story disk_old).reads (Opened found)
+      → (start : Store) → FoundKnown found start → (script : List ℕ) → source.left source_old ≡ Some script → (one : Damage)
+      → ComesTo found.layout (IsBrokenGet (disk.story disk_old).reads (data_page found.layout) found.states) one 1 (lines_of script) (world_over start)
+      → EndsAtBreak one how
   -- whatever the disk tells
   pub so : (IsRefusal how → ⊥) → EndedSo (source.left source_old) (sink.taken sink_old) (sink.taken sink_new) how
   pub damage : IsDamageOfState how

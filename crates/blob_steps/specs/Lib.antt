@@ -1,8 +1,10 @@
 pub mod Faults
 pub mod Looks
 pub mod Lines
+pub mod Known
 pub mod Sessions
 pub mod Steps
+pub mod Breaks
 pub mod Runs
 pub mod Forms
 pub mod Going

@@ -1,8 +1,9 @@
 -- Sessions as the values that the definitions speak of.
-use Rattle.std.specs.Prelude.{◌≡◌, ℕ, ⊤, List, slice_get, Option, Some, None}
+use Rattle.std.specs.Prelude.{◌≡◌, ◌↔◌, ℕ, ⊤, false, List, slice_get, Option, Some, None}
 use Rattle.std.specs.List.{slice_set as set}
 use Rattle.std.specs.FinMap.{get}
 use Rattle.blob_script.specs.Answers.{model_line}
+use Rattle.blob_steps.specs.Known.{StoreKnown}
 use Rattle.blob_steps.specs.Looks.{show_of}
 use Rattle.blob_steps.specs.declared.look.Look.{Look}
 use Rattle.blob_steps.specs.declared.look.Look.TheVariants as look
@@ -12,14 +13,13 @@ use Rattle.blob_steps.specs.declared.session.Session.{Session}
 use Rattle.blob_steps.specs.declared.session.Stage.{Stage}
 use Rattle.blob_steps.specs.declared.session.Stage.TheVariants as stage
 use Rattle.store_model.specs.Answer as answer
-use Rattle.store_model.specs.Store.{Store, content_at}
+use Rattle.store_model.specs.Store.{Store, content_at, number_at}
 use Rattle.store_model.specs.Transaction.{Transaction, Put}
 use Rattle.store_model.specs.Turn as model
-use Rattle.store_model.specs.Turn.{session_after, turn}
+use Rattle.store_model.specs.Turn.{is_one_too_many, is_stale, session_after, turn}
 use Rattle.store_model.specs.World.{transaction_of}
 use Rattle.txn.specs.Requests.{transaction_of as requested}
 use Rattle.txn.specs.Txns.{NoAppends, own_bytes, transaction_by}
-use Rattle.vault.specs.Leads.{StoreStands}
 use Rattle.vault.specs.declared.memory.Memory.{Memory}
 use Rattle.txn.specs.declared.refusal.TxnRefusal.{TxnRefusal}
 use Rattle.txn.specs.declared.refusal.TxnRefusal.TheVariants as refusal
@@ -72,11 +72,23 @@ abbrev pub IsPut : model.Stage → List ℕ → Looked → Type 0
 IsPut after key looked.Own = (transaction : Transaction) × (after ≡ model.Open transaction) × ((content : List ℕ) × (get transaction.changes key ≡ Some (Put content)))
 IsPut after key _ = ⊤
 
+-- A session's look at a key passes its refusals, and shows the object that the store has there: its transaction is open and has no
+-- change of the key.
+pub record ShowsStored (store : Store) (theirs : model.Session) (key : List ℕ) : Type 0 where
+  pub transaction : Transaction
+  pub opened : theirs.stage ≡ model.Open transaction
+  pub few : is_one_too_many transaction key ≡ false
+  pub fresh : is_stale (number_at store key) transaction key ≡ false
+  pub unchanged : get transaction.changes key ≡ None
+  pub born : ℕ
+  pub there : number_at store key ≡ Some born
+
 -- The session of a number was answered so to a look, and is where that leads.
 pub record LooksTo (one : Look) (store : Store) (theirs : model.Session) (key : List ℕ) (number : ℕ) (new : Session) (found : Looked) : Type 0 where
   pub line_is : (turn store theirs (look_action one key)).line ≡ looked_line one store (turn store theirs (look_action one key)).stage key found
   pub stands : SessionStands new number (session_after theirs (look_action one key) (turn store theirs (look_action one key)))
   pub put : IsPut (turn store theirs (look_action one key)).stage key found
+  pub stored : (found ≡ looked.Stored) ↔ ShowsStored store theirs key
 
 -- the program's sessions where that of a number is another
 pub record IsSet (old new : List Session) (number : ℕ) (was later : Session) : Type 0 where
@@ -93,7 +105,7 @@ pub record HasTurned (mine : Memory) (old new : List Session) (number : ℕ) (ac
   pub was : Session
   pub later : Session
   pub set_is : IsSet old new number was later
-  pub turns : (theirs : model.Session) (over : Store) → StoreStands mine over → SessionStands was number theirs → TurnsTo over theirs action number later line
+  pub turns : (theirs : model.Session) (over : Store) → StoreKnown mine over → SessionStands was number theirs → TurnsTo over theirs action number later line
   pub some : TurnsSomehow was number action later
   pub begun : later.begun ≡ was.begun
   pub waits : was.stage ≡ stage.Waiting → later.stage ≡ stage.Waiting
@@ -103,7 +115,7 @@ pub record HasLooked (mine : Memory) (old new : List Session) (number : ℕ) (ke
   pub was : Session
   pub later : Session
   pub set_is : IsSet old new number was later
-  pub looks : (one : Look) (theirs : model.Session) (over : Store) → StoreStands mine over → SessionStands was number theirs → LooksTo one over theirs key number later found
+  pub looks : (one : Look) (theirs : model.Session) (over : Store) → StoreKnown mine over → SessionStands was number theirs → LooksTo one over theirs key number later found
   pub some : (one : Look) → TurnsSomehow was number (look_action one key) later
   pub begun : later.begun ≡ was.begun
   pub waits : was.stage ≡ stage.Waiting → later.stage ≡ stage.Waiting

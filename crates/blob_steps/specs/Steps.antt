@@ -1,14 +1,15 @@
 -- What a step does to the program's world, in the words of the definitions.
-use Rattle.std.specs.Prelude.{◌≡◌, ◌≢◌, ◌==◌, ℕ, ◌+◌, ◌<◌, ◌≤◌, Bool, true, false, IsTrue, List, length, map, take, zip, slice_get, Some, None, Result, OnOk, IfErr}
+use Rattle.std.specs.Prelude.{◌≡◌, ◌≢◌, ◌==◌, ℕ, ◌+◌, ◌<◌, ◌≤◌, Bool, true, false, IsTrue, List, [], length, map, take, zip, slice_get, Some, None, Result, OnOk, IfErr}
 use Rattle.std.specs.List.{flat_map, list_any, slice_set as set}
 use Rattle.group_plan.specs.Plans.{model_reply}
 use Rattle.group_plan.specs.declared.plan.Reply.{Reply as ReplyTo}
 use Rattle.store_model.specs.Answer.{answer_text}
-use Rattle.store_model.specs.Group.{Reply, taken_blocks}
+use Rattle.store_model.specs.Group.{taken_blocks}
 use Rattle.store_model.specs.World.{reply_line}
 use Rattle.disk_model.specs.Disks.{Keeps}
 use Rattle.disk_model.specs.declared.disk.Disk.{Ghosts}
 use Rattle.blob_steps.specs.Faults.{IsDamageAmong, IsRaisedFault, IsUndamagedFault, ShowsDamageFault}
+use Rattle.blob_steps.specs.Known.{StoreKnown}
 use Rattle.blob_steps.specs.Sessions.{SessionStands}
 use Rattle.blob_steps.specs.declared.fault.StoreFault.{StoreFault}
 use Rattle.blob_steps.specs.declared.session.Session.{Session}
@@ -20,6 +21,7 @@ use Rattle.blob_steps.specs.declared.world.World.{World}
 use Rattle.store_model.specs.Answer as answer
 use Rattle.store_model.specs.Cost.{Cost, with_line}
 use Rattle.store_model.specs.Images.{Wrote}
+use Rattle.store_model.specs.Layout.{data_page}
 use Rattle.store_model.specs.Play.{step_play, turned}
 use Rattle.store_model.specs.Script.{Step}
 use Rattle.store_model.specs.Standing.{AllHeld, AllStand}
@@ -32,18 +34,26 @@ use Rattle.txn.specs.declared.request.Request.{Request}
 use Rattle.vault.specs.Leads.{Costs, IsLeadPage, StoreStands}
 use Rattle.vault.specs.Pours.{AreWhole}
 use Rattle.vault.specs.Vaults.{IsVault}
+use Rattle.vault.specs.declared.memory.Memory.{Memory}
 
 -- a request in the queue is that of its session's transaction
 pub record RequestStands (request : Request) (theirs : turn.Session) : Type 0 where
   pub begun : theirs.begun ≡ request.nth
   pub stage : theirs.stage ≡ turn.Waiting (transaction_of request)
 
--- The program's world is at a world: its store, its sessions, its queue, and the requests in it.
-pub record WorldStands {D : Type 0} (mine : World D) (world : model.World) : Type 0 where
-  pub store : StoreStands mine.vault.memory world.store
+-- The program's world is at a world: its store, as far as this says, its sessions, its queue, and the requests in it.
+pub record WorldIs {D : Type 0} (Is : Memory → Store → Type 0) (mine : World D) (world : model.World) : Type 0 where
+  pub store : Is mine.vault.memory world.store
   pub sessions : (number : ℕ) (one : Session) → slice_get mine.sessions.items number ≡ Some one → SessionStands one number (world.sessions number)
   pub queue : world.queue ≡ map (λ request. request.session) mine.queue
   pub requests : (i : ℕ) (request : Request) → slice_get mine.queue i ≡ Some request → RequestStands request (world.sessions request.session)
+
+-- its store is the one in memory, or is known but for the contents
+abbrev pub WorldStands : {D : Type 0} → World D → model.World → Type 0
+WorldStands mine world = WorldIs StoreStands mine world
+
+abbrev pub WorldKnown : {D : Type 0} → World D → model.World → Type 0
+WorldKnown mine world = WorldIs StoreKnown mine world
 
 -- the session of each request waits
 abbrev pub DoWait : List Session → List Request → Type 0
@@ -82,9 +92,11 @@ HaveBegun n mine = (number : ℕ) (one : Session) → slice_get mine.sessions.it
 
 -- A session was answered this line to an action of its transaction, and the program's world is where that leads.
 pub record TakesTurn {D : Type 0} (g : Ghosts D) (mine new : World D) (number : ℕ) (action : turn.Action) (line : answer.AnswerLine) : Type 0 where
-  pub line_is : (world : model.World) → WorldStands mine world → line ≡ (turn.turn world.store (world.sessions number) action).line
+  pub line_is : (world : model.World) → WorldKnown mine world → line ≡ (turn.turn world.store (world.sessions number) action).line
   pub stands : (world : model.World) → WorldStands mine world
       → WorldStands new (turned world number action (turn.turn world.store (world.sessions number) action)).world
+  pub knows : (world : model.World) → WorldKnown mine world
+      → WorldKnown new (turned world number action (turn.turn world.store (world.sessions number) action)).world
   pub sound : IsWorld g new
   pub begun : (n : ℕ) → HaveBegun n mine → HaveBegun (n + 1) new
   pub vault : new.vault ≡ mine.vault
@@ -112,6 +124,21 @@ abbrev pub DoesPlay : {D : Type 0} → Ghosts D → model.World → Step → Lis
 DoesPlay g world step text mine new played.Answered =
     (outcome : Outcome) × (step_play mine.vault.memory.layout world step ≡ Some outcome) × CameTo g world outcome text mine new
 DoesPlay g world step text mine new played.NotBuilt = (step_play mine.vault.memory.layout world step ≡ None) × (new.vault ≡ mine.vault)
+
+-- The program's world is where an outcome without a commit leads, as far as it is known: it has the same states, and no page of the data
+-- area has changed.
+pub record Follows {D : Type 0} (g : Ghosts D) (world : model.World) (mine new : World D) : Type 0 where
+  pub known : WorldKnown new world
+  pub states : new.vault.memory.relation.states ≡ mine.vault.memory.relation.states
+  pub pages : IsTrue g.tells → (at : ℕ) → (g.story new.vault.disk).reads (data_page mine.vault.memory.layout + at)
+      ≡ (g.story mine.vault.disk).reads (data_page mine.vault.memory.layout + at)
+
+-- so it is behind a step of a known world that has an outcome
+abbrev pub DoesFollow : {D : Type 0} → Ghosts D → model.World → Step → World D → World D → Played → Type 0
+DoesFollow g world step mine new played.Answered =
+    (outcome : Outcome) × (step_play mine.vault.memory.layout world step ≡ Some outcome)
+    × (outcome.commits ≡ [] → Follows g outcome.world mine new)
+DoesFollow g world step mine new played.NotBuilt = step_play mine.vault.memory.layout world step ≡ None
 
 -- What a step leaves, whether it has an answer or not: with one, the world is sound and each session has begun at most one transaction
 -- more; without, a fault has its cause, damage is that of the key's state, and so of an object, and where the contents are held there

@@ -52,7 +52,7 @@ fn run_form<S: Source, K: Sink, D: Disk>(
         Form::Steps => return steps(alloc, source, sink, disk),
         Form::Format { units, room } => run_format(Layout { units, room }, sink, &mut disk),
         Form::Show => run_show(alloc, sink, &mut disk),
-        Form::Check => run_check(alloc, sink, &mut disk),
+        Form::Check => return run_check(alloc, sink, disk),
     };
     (status, disk)
 }

@@ -1,18 +1,26 @@
 // The run of a script over a source, a sink and the store of a disk.
 
-ghost use Rattle.std.specs.Prelude.{◌≡◌, ◌<◌, ◌≤◌, ◌+◌, ◌^◌, ℕ, [], List, Option, None, OnOk, IfOk, IfErr, MatchBool, MatchResult, IsTrue, true};
+ghost use Rattle.std.specs.Prelude.{◌≡◌, ◌<◌, ◌≤◌, ◌+◌, ◌^◌, ℕ, [], List, Option, None, Some, OnOk, IfOk, IfErr, MatchBool, MatchResult, IsTrue, true};
 ghost use Rattle.std.specs.Io.KnownBytes.{prepend_known};
 ghost use Rattle.blob_base.specs.Faults.{KeepsEnd};
 ghost use Rattle.blob_base.specs.declared.faults.StoreRefusal.TheVariants.{TooSmall};
 ghost use Rattle.disk_model.specs.Disks.{Keeps};
 ghost use Rattle.store_model.specs.Cost.{Cost};
-ghost use Rattle.store_model.specs.Script.{line_at};
+ghost use Rattle.std.specs.FinMap.{FinMap};
+ghost use Rattle.store_model.specs.Disk.{Image};
+ghost use Rattle.store_model.specs.Key.{key_order};
+ghost use Rattle.store_model.specs.Layout.{Layout, data_page};
+ghost use Rattle.store_model.specs.Report.{Damage};
+ghost use Rattle.store_model.specs.Script.{line_at, lines_of};
+ghost use Rattle.store_model.specs.State.{State};
 ghost use Rattle.store_model.specs.World.{World as ModelWorld, world_over};
 ghost use Rattle.store_model.specs.Standing.{AllHeld};
 ghost use Rattle.store_model.specs.Store.{Store as ModelStore};
 ghost use Rattle.blob_script.specs.Words.{IsSession, model_step};
+ghost use Rattle.blob_steps.specs.Breaks.{ComesTo, ComingTo, EndsAtBreak, EndsBreaking, IsBrokenGet, NeverBreaks};
+ghost use Rattle.blob_steps.specs.Known.{StoreKnown};
 ghost use Rattle.blob_steps.specs.Forms.{DidFresh, DidSteps, IsDamageOfState};
-ghost use Rattle.blob_steps.specs.Steps.{DoesPlay, HaveBegun, IsWorld, WorldStands};
+ghost use Rattle.blob_steps.specs.Steps.{DoesFollow, DoesPlay, HaveBegun, IsWorld, WorldKnown, WorldStands};
 ghost use Rattle.blob_steps.specs.Runs.{Ended, EndedSo, IsRaised, IsUndamaged, KeepsEnds, ShowsDamage, counts_of};
 ghost use Rattle.blob_steps.specs.Going.{EndsReading, EndsStep, Going, GoingSo, IsAccepted, IsRunning, StartsOn, reading_ending, step_ending};
 ghost use Rattle.blob_steps.specs.Nexts.{HasSession, IsAlways, IsLine, IsNeverBuilt, IsNext, IsUnbuilt, TellsLine, next_line};
@@ -94,6 +102,10 @@ impl<D: Disk> Run<D> {
         requires session { IsSession step }
         ensures step { (world : ModelWorld) → WorldStands self.old.world world
             → OnOk result (DoesPlay D.Disk world (model_step step) self.new.text self.old.world self.new.world Played.Answered) }
+        ensures follows { (world : ModelWorld) → WorldKnown self.old.world world
+            → OnOk result (DoesFollow D.Disk world (model_step step) self.old.world self.new.world Played.Answered) }
+        ensures breaks { IsTrue D.tells → (world : ModelWorld) → WorldKnown self.old.world world
+            → MatchResult result (λ _. NeverBreaks D.Disk self.old.world world (model_step step)) (EndsBreaking D.Disk self.old.world world (model_step step)) }
         ensures unbuilt { (world : ModelWorld) → WorldStands self.old.world world
             → IfErr result (IsUnbuilt self.old.world.vault.memory.layout world (model_step step) number self.old.world.vault self.new.world.vault) }
         ensures always { OnOk result (IsAlways (model_step step) Played.Answered) }
@@ -148,6 +160,12 @@ impl<D: Disk> Run<D> {
             (GoingSo (number + 1) first (prepend_known self.new.reader (S.left source.new)) old (K.taken sink.new))
             (EndedSo first old (K.taken sink.new) Status.Done))
             (λ status. EndedSo first old (K.taken sink.new) status) }
+        ensures breaks { IsTrue D.tells → (layout : Layout) (image : Image) (states : FinMap key_order State) (one : Damage)
+            → ComingTo D.Disk layout image states one number (prepend_known self.old.reader (S.left source.old)) self.old.world
+            → MatchResult result
+            (λ more. MatchBool more
+            (ComingTo D.Disk layout image states one (number + 1) (prepend_known self.new.reader (S.left source.new)) self.new.world) ⊥)
+            (EndsAtBreak one) }
         ensures few { result ≡ Ok true → number ≤ MAX_LINES }
         ensures sound { OnOk result (IsWorld D.Disk self.new.world) }
         ensures vault { IsVault D.Disk self.new.world.vault.disk self.new.world.vault.memory self.new.world.vault.shut }
@@ -191,6 +209,9 @@ impl<D: Disk> Run<D> {
         ensures so { MatchResult result
             (λ _. EndedSo (S.left source.old) (K.taken sink.old) (K.taken sink.new) Status.Done)
             (λ status. EndedSo (S.left source.old) (K.taken sink.old) (K.taken sink.new) status) }
+        ensures breaks { IsTrue D.tells → (layout : Layout) (image : Image) (states : FinMap key_order State) (one : Damage)
+            → ComingTo D.Disk layout image states one 1 (S.left source.old) self.old.world
+            → MatchResult result (λ _. ⊥) (EndsAtBreak one) }
         ensures vault { IsVault D.Disk self.new.world.vault.disk self.new.world.vault.memory self.new.world.vault.shut }
         ensures own { IfErr result IsRunning }
         ensures among { IfErr result IsDamageOfState }
@@ -288,6 +309,11 @@ fn run_script<S: Source, K: Sink, D: Disk>(
         → (IsTrue D.tells → AllHeld (D.story vault.disk).reads vault.memory.layout start.objects)
         → Ended D.Disk vault.memory.layout start cost cost (K.frugal sink.old) (S.left source.old) (K.taken sink.old) (K.taken sink.new)
         vault.disk result.1 result.0 }
+    ensures breaks { IsTrue D.tells → (image : Image) (start : ModelStore) (script : List ℕ) (one : Damage) → StoreKnown vault.memory start
+        → ((at : ℕ) → (D.story vault.disk).reads (data_page vault.memory.layout + at) ≡ image (data_page vault.memory.layout + at))
+        → S.left source.old ≡ Some script
+        → ComesTo vault.memory.layout (IsBrokenGet image (data_page vault.memory.layout) vault.memory.relation.states) one 1 (lines_of script) (world_over start)
+        → EndsAtBreak one result.0 }
     ensures so { EndedSo (S.left source.old) (K.taken sink.old) (K.taken sink.new) result.0 }
     ensures own { IsAccepted result.0 }
     ensures among { IsDamageOfState result.0 }

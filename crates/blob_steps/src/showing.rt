@@ -1,9 +1,10 @@
 // What a look shows of what a store has.
 
-ghost use Rattle.std.specs.Prelude.{◌≡◌, ℕ, List, Some, None, IfErr, IfOk, IsTrue, OnOk, length, option_map};
+ghost use Rattle.std.specs.Prelude.{◌≡◌, ℕ, List, Some, None, IfErr, IfOk, IsTrue, OnErr, OnOk, length, option_map};
 ghost use Rattle.std.specs.FinMap as map;
 ghost use Rattle.blob_script.specs.Answers.{model_line};
 ghost use Rattle.blob_steps.specs.Faults.{DamageAt, DamageOf, FailsAt, FailsOn, FailsOver, IsRaisedFault, IsUndamagedFault, ShowsDamageFault, gathered_fault};
+ghost use Rattle.blob_steps.specs.declared.look.Look.TheVariants as look_kind;
 ghost use Rattle.blob_steps.specs.Looks.{ShownOf, VerifiesAt, show_of};
 ghost use Rattle.disk_model.specs.Disks.{OnlyReads};
 ghost use Rattle.store_model.specs.Answer.{Value};
@@ -56,6 +57,7 @@ pub(crate) fn show<D: Disk>(
     // Whatever the disk tells, what is shown was verified: it leads over the state's links to its digest.
     ensures shown { IfOk result (λ line. ShownOf look (map.get vault.old.memory.relation.states key.now) (model_line line)) }
     ensures damaged { IfErr result (DamageAt key.now (map.get vault.old.memory.relation.states key.now)) }
+    ensures get { OnErr result (look ≡ look_kind.Get) }
 
     // Where it tells its pages, a content is shown exactly where its state verifies there.
     ensures verifies { IsTrue D.tells → OnOk result (VerifiesAt look (D.story vault.old.disk).reads (data_page vault.old.memory.layout)

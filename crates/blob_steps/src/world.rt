@@ -1,6 +1,6 @@
 // The world of a run: its vault, its sessions and their queue.
 
-ghost use Rattle.std.specs.Prelude.{◌≡◌, ℕ, ◌+◌, ◌<◌, ◌≤◌, ◌^◌, ◌++◌, [], ◌∷◌, List, length, map, drop, None, IfOk, OnOk, slice_get, Some};
+ghost use Rattle.std.specs.Prelude.{◌≡◌, ℕ, ◌+◌, ◌<◌, ◌≤◌, ◌^◌, ◌++◌, [], ◌∷◌, List, length, map, drop, None, IfErr, IfOk, IsTrue, MatchResult, OnOk, slice_get, Some};
 ghost use Rattle.std.specs.List.{All};
 ghost use Rattle.blob_script.specs.Answers.{model_line};
 ghost use Rattle.blob_script.specs.Contents.{content_bytes};
@@ -15,11 +15,14 @@ ghost use Rattle.store_model.specs.Turn as turn;
 ghost use Rattle.store_model.specs.World.{World as ModelWorld, checkpointed, lead, reply_line, transaction_of, world_over};
 ghost use Rattle.std.specs.FinMap as map;
 ghost use Rattle.txn.specs.Txns.{own_bytes};
+ghost use Rattle.blob_steps.specs.Breaks.{BreaksFault, NeverBreaks};
+ghost use Rattle.blob_steps.specs.Faults.{IsUndamagedFault};
+ghost use Rattle.blob_steps.specs.Known.{StoreKnown};
 ghost use Rattle.blob_steps.specs.Looks.{show_of};
 ghost use Rattle.blob_steps.specs.declared.session.Looked.TheVariants as Looked;
 ghost use Rattle.blob_steps.specs.Nexts.{IsAlways};
 ghost use Rattle.blob_steps.specs.Sessions.{HasLooked, HasTurned, IsPut, look_action};
-ghost use Rattle.blob_steps.specs.Steps.{AreNew, CameTo, DoesPlay, HaveBegun, IsWorld, LeavesFree, Replying, Stepped, TakesTurn, WorldStands, replies_text};
+ghost use Rattle.blob_steps.specs.Steps.{AreNew, CameTo, DoesFollow, DoesPlay, Follows, HaveBegun, IsWorld, LeavesFree, Replying, Stepped, TakesTurn, WorldKnown, WorldStands, replies_text};
 ghost use Rattle.vault.specs.Leads.{StoreStands};
 ghost use Rattle.vault.specs.Vaults.{IsVault};
 
@@ -155,6 +158,7 @@ impl<D: Disk> World<D> {
         ensures vault { result.vault ≡ vault }
         ensures begun { HaveBegun 0 result }
         ensures stands { (store : ModelStore) → StoreStands vault.memory store → WorldStands result (world_over store) }
+        ensures known { (store : ModelStore) → StoreKnown vault.memory store → WorldKnown result (world_over store) }
     {
         World {
             vault,
@@ -177,6 +181,10 @@ impl<D: Disk> World<D> {
         ensures play { (world : ModelWorld) → WorldStands self.old world
             → IfOk result (DoesPlay D.Disk world (model_step step) text.new self.old self.new) }
         ensures always { IfOk result (IsAlways (model_step step)) }
+        ensures follows { (world : ModelWorld) → WorldKnown self.old world
+            → IfOk result (DoesFollow D.Disk world (model_step step) self.old self.new) }
+        ensures breaks { IsTrue D.tells → (world : ModelWorld) → WorldKnown self.old world
+            → MatchResult result (λ _. NeverBreaks D.Disk self.old world (model_step step)) (BreaksFault D.Disk self.old world (model_step step)) }
         ensures stepped { Stepped D.Disk self.old self.new result }
     {
         match step {
@@ -207,6 +215,11 @@ impl<D: Disk> World<D> {
         ensures play { (world : ModelWorld) → WorldStands self.old world
             → IfOk result (DoesPlay D.Disk world (script.Session session (model_action action)) text.new self.old self.new) }
         ensures always { IfOk result (IsAlways (script.Session session (model_action action))) }
+        ensures follows { (world : ModelWorld) → WorldKnown self.old world
+            → IfOk result (DoesFollow D.Disk world (script.Session session (model_action action)) self.old self.new) }
+        ensures breaks { IsTrue D.tells → (world : ModelWorld) → WorldKnown self.old world
+            → MatchResult result (λ _. NeverBreaks D.Disk self.old world (script.Session session (model_action action)))
+            (BreaksFault D.Disk self.old world (script.Session session (model_action action))) }
         ensures stepped { Stepped D.Disk self.old self.new result }
     {
         let line = match action {
@@ -311,6 +324,11 @@ impl<D: Disk> World<D> {
         requires none { text.old ≡ [] }
         ensures came { (world : ModelWorld) → WorldStands self.old world
             → OnOk result (CameTo D.Disk world (transact world session (look_action look key.now)) text.new self.old self.new) }
+        ensures follows { (world : ModelWorld) → WorldKnown self.old world
+            → OnOk result (Follows D.Disk (transact world session (look_action look key.now)).world self.old self.new) }
+        ensures breaks { IsTrue D.tells → (world : ModelWorld) → WorldKnown self.old world
+            → MatchResult result (λ _. NeverBreaks D.Disk self.old world (script.Session session (script.Transact (look_action look key.now))))
+            (BreaksFault D.Disk self.old world (script.Session session (script.Transact (look_action look key.now)))) }
         ensures stepped { Stepped D.Disk self.old self.new result }
     {
         let line = match find(&self.vault, &mut self.sessions, session, key)? {
@@ -364,6 +382,8 @@ impl<D: Disk> World<D> {
         requires none { text.old ≡ [] }
         ensures came { (world : ModelWorld) → WorldStands self.old world
             → OnOk result (CameTo D.Disk world (checkpointed world) text.new self.old self.new) }
+        ensures follows { (world : ModelWorld) → WorldKnown self.old world → OnOk result (Follows D.Disk world self.old self.new) }
+        ensures undamaged { IfErr result IsUndamagedFault }
         ensures stepped { Stepped D.Disk self.old self.new result }
     {
         self.vault.turn()?;
@@ -377,6 +397,9 @@ impl<D: Disk> World<D> {
         requires none { text.old ≡ [] }
         ensures came { (world : ModelWorld) → WorldStands self.old world
             → OnOk result (CameTo D.Disk world (lead self.old.vault.memory.layout world) text.new self.old self.new) }
+        ensures follows { (world : ModelWorld) → WorldKnown self.old world → (lead self.old.vault.memory.layout world).commits ≡ []
+            → OnOk result (Follows D.Disk (lead self.old.vault.memory.layout world).world self.old self.new) }
+        ensures undamaged { IfErr result IsUndamagedFault }
         ensures stepped { Stepped D.Disk self.old self.new result }
     {
         if self.queue.is_empty() {

@@ -16,12 +16,12 @@ use Rattle.store_model.specs.TupleFields.{IsBadTuple}
 use Rattle.std.proofs.lemmas.List.{length-map, take_all}
 use Rattle.store_model.proofs.AreaLaws.{take-area}
 use Rattle.store_model.proofs.HalfReadingLaws.{FindsHalf-read, length-stored_states}
-use Rattle.blob_state.specs.declared.reader.Tuple.{Tuple}
 use Rattle.check_point.specs.Reads.{IsRefused, RefusesHeader, TellsHeader, half_fault, tuples_fault}
 use Rattle.check_point.specs.Tuples.{IsRefusal, model_tuple, model_tuples}
 use Rattle.check_point.specs.declared.read.HalfFault.{HalfFault}
 use Rattle.check_point.specs.declared.read.HalfFault.TheVariants as fault
 use Rattle.check_point.specs.declared.read.Header.{Header}
+use Rattle.check_point.specs.declared.tuples.Keyed.{Keyed}
 use Rattle.check_point.specs.declared.tuples.TuplesFault.{TuplesFault}
 use Rattle.check_point.specs.declared.tuples.TuplesFault.TheVariants as tuples
 
@@ -65,7 +65,7 @@ AreTuples-told pages half old header extent bytes found tells data_is is are =
     (subst (λ (xs : List ℕ). AreTuples extent header.told.last xs found) is are))
 
 -- a half that was read
-pub half-found : (pages half : ℕ) (old : Story) (mid : Image) (header : Header) (extent : ℕ) (bytes : List ℕ) (found : List Tuple)
+pub half-found : (pages half : ℕ) (old : Story) (mid : Image) (header : Header) (extent : ℕ) (bytes : List ℕ) (found : List Keyed)
     → TellsHeader pages (old.reads (header_page half)) header → mid ≡ old.reads
     → bytes ≡ take header.told.length (area_of mid (states_page header.layout half) header.layout.room) → extent ≡ data_pages header.layout
     → AreTuples extent header.told.last bytes (model_tuples found) → length found ≡ header.told.count → tuples_bytes (model_tuples found) ≡ bytes

@@ -3,15 +3,15 @@ use Rattle.std.specs.Prelude.{ℕ, ◌+◌, ◌<◌, ◌≡◌, List, length, dr
 use Rattle.store_model.specs.HalfRefusals.{AreTuples, rules_behind, tuples_bytes}
 use Rattle.store_model.specs.State.{State}
 use Rattle.store_model.specs.TupleFields.{IsBadTuple}
-use Rattle.blob_state.specs.declared.reader.Tuple.{Tuple}
+use Rattle.check_point.specs.declared.tuples.Keyed.{Keyed}
 use Rattle.check_point.specs.declared.tuples.TuplesFault.{TuplesFault}
 use Rattle.check_point.specs.declared.tuples.TuplesFault.TheVariants as fault
 
 -- tuples that were read, as definitions see them
-abbrev pub model_tuple : Tuple → List ℕ × State
-model_tuple tuple = (tuple.key, tuple.state)
+abbrev pub model_tuple : Keyed → List ℕ × State
+model_tuple tuple = (tuple.key, tuple.state.value)
 
-abbrev pub model_tuples : List Tuple → List (List ℕ × State)
+abbrev pub model_tuples : List Keyed → List (List ℕ × State)
 model_tuples tuples = map model_tuple tuples
 
 -- a tuple is refused behind those that are good, at this offset

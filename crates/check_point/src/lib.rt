@@ -12,4 +12,4 @@ mod tuples;
 pub use half::HalfWriter;
 pub use read::{HalfFault, HalfFound, read_half};
 pub use selector::{flip, pick};
-pub use tuples::Tuples;
+pub use tuples::{Keyed, Tuples};

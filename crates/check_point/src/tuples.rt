@@ -1,6 +1,6 @@
 // The tuples of a half, read back.
 
-ghost use Rattle.std.specs.Prelude.{◌≡◌, ◌+◌, ◌^◌, ◌<◌, ◌≤◌, List, ℕ, length, IsTrue, IfOk, IfErr, OnOk};
+ghost use Rattle.std.specs.Prelude.{◌≡◌, ◌+◌, ◌^◌, ◌<◌, ◌≤◌, ◌++◌, ◌∷◌, [], List, ℕ, length, IsTrue, IfOk, IfErr, OnOk};
 ghost use Rattle.store_model.specs.HalfRefusals.{AreTuples, may_follow, rules_behind, tuples_bytes};
 ghost use Rattle.store_model.specs.State.{greatest_number};
 ghost use Rattle.store_model.specs.Tuple.{IsAtFront, spelling};
@@ -9,11 +9,18 @@ ghost use Rattle.check_point.specs.Tuples.{IsRefusal, model_tuples};
 ghost use Rattle.check_point.specs.declared.tuples.TuplesFault.TheVariants as fault;
 
 use blob_base::{Key, Listed, OutOfMemory};
-use blob_state::{BadTuple, Tuple, decode_key, decode_state};
+use blob_state::{BadTuple, BlobState, Tuple, decode_key, decode_state};
 use std::alloc::Global;
 
+/// A key with its state, which has a place of its own.
+#[derive(Drop)]
+pub struct Keyed {
+    pub key: Key,
+    pub state: Box<BlobState>,
+}
+
 /// Keys with their states, in the order of the keys.
-pub type Tuples = Listed<Tuple>;
+pub type Tuples = Listed<Keyed>;
 
 /// Why tuples aren't read.
 #[derive(Clone, Copy, Debug, PartialEq, Eq)]
@@ -67,6 +74,22 @@ fn read_tuple(bytes: &[u8], tuples: &Tuples, pages: u32, last: u64) -> Result<Tu
     }
 }
 
+// Adds a tuple behind these, and gives its state a place of its own.
+fn add(alloc: Global, tuples: &mut Tuples, tuple: Tuple) -> Result<(), OutOfMemory>
+    ensures { OnOk result (model_tuples tuples.new ≡ model_tuples tuples.old ++ (tuple.key, tuple.state) ∷ []) }
+{
+    let Ok(state) = Box::new(alloc, tuple.state) else {
+        return Err(OutOfMemory);
+    };
+    tuples.push(
+        alloc,
+        Keyed {
+            key: tuple.key,
+            state,
+        },
+    )
+}
+
 /// So many tuples, which take all of these bytes.
 pub(crate) fn read_tuples(
     alloc: Global,
@@ -89,7 +112,7 @@ pub(crate) fn read_tuples(
         match read_tuple(rest, &tuples, pages, last) {
             Ok(tuple) => {
                 at += tuple.length;
-                tuples.push(alloc, tuple)?;
+                add(alloc, &mut tuples, tuple)?;
             }
             Err(bad) => {
                 return Err(TuplesFault::BadTuple {

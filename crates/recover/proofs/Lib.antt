@@ -8,7 +8,7 @@ pub mod Takings
 pub mod Bodies
 pub mod Followings
 pub mod Droppings
-pub mod Settings
+pub mod Adoptings
 pub mod LogTakings
 pub mod Owned
 pub mod Openings

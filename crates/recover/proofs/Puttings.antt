@@ -55,7 +55,7 @@ Putting-none g start disk none =
     }
 
 -- the states up to one more
-pub take-next : (es : List (List ℕ × State)) (i : ℕ) (one : List ℕ × State) → slice_get es i ≡ Some one → take i es ++ one ∷ [] ≡ take (i + 1) es
+take-next : (es : List (List ℕ × State)) (i : ℕ) (one : List ℕ × State) → slice_get es i ≡ Some one → take i es ++ one ∷ [] ≡ take (i + 1) es
 take-next es i one there =
     ap (λ (e : List ℕ × State). take i es ++ e ∷ []) (sym (get_or_from_slice_get es i one one there)) ∙ sym (take_more es i one (slice_get_within es i one there))
 

@@ -63,7 +63,7 @@ fn open_half<D: Disk>(alloc: Global, disk: &mut D, half: u32) -> Result<Held, Re
     };
     let layout = found.layout;
     layout.rules();
-    let relation = relation_of(alloc, &found.states)?;
+    let relation = relation_of(alloc, found.states)?;
     Ok(Held {
         layout,
         last: found.last,

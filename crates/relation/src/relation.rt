@@ -1,6 +1,6 @@
 // The relation of a store.
 
-ghost use Rattle.std.specs.Prelude.{◌≡◌, ◌+◌, ◌-◌, ◌^◌, ◌<◌, ◌≤◌, ◌==◌, ◌⊎◌, Some, IsTrue, if◌then◌else◌, slice_get, option_copied, vec_len, vec_capacity, IfOk, OnOk, OnErr};
+ghost use Rattle.std.specs.Prelude.{◌≡◌, ◌+◌, ◌-◌, ◌^◌, ◌<◌, ◌≤◌, ◌==◌, ◌⊎◌, None, Some, IsTrue, if◌then◌else◌, slice_get, option_copied, vec_len, vec_capacity, IfOk, OnOk, OnErr};
 ghost use Rattle.std.specs.FinMap as map;
 ghost use Rattle.store_model.specs.Tuple.{greatest_tuple};
 ghost use Rattle.relation.specs.Parts.{blocks_by, bytes_bound, encoded_by, owned_by};
@@ -169,6 +169,25 @@ impl Relation {
                 self.bytes += longer;
             }
         }
+    }
+
+    /// Takes over a state in its place, under a key that isn't there. The state isn't moved, and no spare place is taken.
+    pub fn adopt(&mut self, key: Key, place: Box<BlobState>) -> Result<(), OutOfMemory>
+        requires missing { map.get self.old.states key ≡ None }
+        requires bytes { encoded_by (map.insert self.old.states key place.value) < bytes_bound }
+        ensures states { OnOk result (self.new.states ≡ map.insert self.old.states key place.value) }
+        ensures spare { self.new.spare ≡ self.old.spare }
+        ensures err { OnErr result (self.new ≡ self.old) }
+    {
+        let Err(at) = search(&self.entries, &key) else {
+            unreachable!()
+        };
+        // There is room for every place in both lists, so that going from one to the other takes no memory.
+        self.entries.reserve(self.free.len().saturating_add(1))?;
+        self.free.reserve(self.entries.len().saturating_add(1))?;
+        self.bytes += place.encoded(&key) as u64;
+        let _ = self.entries.insert(at, Entry { key, state: place });
+        Ok(())
     }
 
     /// Takes a key's state out.

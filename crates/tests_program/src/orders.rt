@@ -2,8 +2,15 @@
 // their logs begin at pages 3 and 515, their states stand on pages 1027 and 1028, and data page 0 is page 1029. A format makes half
 // 0, and each opening turns to the other half.
 
-use crate::recorded::{Given, talk_recorded};
-use crate::trial::ONE_PUT;
+ghost use Rattle.std.specs.Prelude.{◌<◌};
+
+use crate::recorded::{Given, Recorder, talk_recorded};
+use crate::trial::{ONE_PUT, Trial, new_disk, run_words, talk_on};
+use blob_base::{Bytes, OutOfMemory};
+use blob_script::Status;
+use std::alloc::Global;
+use std::process::Abort;
+use std::test::Fail;
 
 // How many calls the format and the opening of a `fresh` are.
 const FRESH: usize = 14;
@@ -192,4 +199,99 @@ fn a_lead_goes_on_in_the_half_that_a_checkpoint_turned_to(rt: HostRuntime) {
             Given::Sync,
         ],
     );
+}
+
+// It reads the selector, the header, the log up to its closed gate, and the content that the last frame sets; and then turns.
+#[test]
+fn an_opening_reads_each_page_once(rt: HostRuntime) {
+    let first = talk_recorded(&rt, &[ONE_PUT]).disk;
+    let disk = Recorder::over(rt.alloc(), first.disk);
+    let ended = talk_on(&rt, "steps s", disk, &[("lead", "idle")]);
+    ended.disk.expect_rest(
+        &rt,
+        0,
+        &[
+            Given::Sync,
+            Given::Read(0),
+            Given::Read(2),
+            Given::Read(515),
+            Given::Read(516),
+            Given::Read(517),
+            Given::Read(1029),
+            Given::Write(1027),
+            Given::Write(1),
+            Given::Write(3),
+            Given::Sync,
+            Given::Write(0),
+            Given::Sync,
+        ],
+    );
+}
+
+// The script of so many transactions, one after the other, each of which puts one content, and what it is answered.
+fn one_by_one(alloc: Global, count: u64) -> Result<(Bytes, Bytes), OutOfMemory> {
+    let mut script = Bytes::new(alloc);
+    let mut output = Bytes::new(alloc);
+    for number in 0..count {
+        script.append(alloc, b"0 begin\n0 put demo/a x:61\n0 commit\nlead\n")?;
+        let committed = number.saturating_add(1);
+        let answers = format!(in alloc; "0 begun\n0 put\n0 queued\n0 committed {committed}\n")?;
+        output.append(alloc, answers.as_bytes())?;
+    }
+    Ok((script, output))
+}
+
+// The six calls of this lead of such a script stand behind those of the leads before. The contents take data pages 0 and 1 in turn.
+fn expect_lead<R: Abort>(rt: &R, disk: &Recorder, lead: u32)
+    requires { lead < 255 }
+{
+    let gate = 515 + 2 * lead;
+    let given = [
+        Given::Write(gate + 1),
+        Given::Write(gate + 2),
+        Given::Sync,
+        Given::Write(1029 + lead % 2),
+        Given::Write(gate),
+        Given::Sync,
+    ];
+    disk.expect_at(rt, FRESH + 6 * lead as usize, &given);
+}
+
+// A frame takes two pages with the gate behind it, and a log has 512: each of the first 255 leads makes two syncs, and the last,
+// which turns to half 0 first, four.
+#[test]
+fn the_256th_lead_turns_to_the_other_half(rt: HostRuntime) -> Result<(), Fail> {
+    let (script, output) = one_by_one(rt.alloc(), 256)?;
+    let disk = Recorder::over(rt.alloc(), new_disk(&rt));
+    let ended = Trial::of(script.as_slice()).run_on(rt.alloc(), disk)?;
+    ended.expect(&rt, output.as_slice(), &Status::Done);
+    let recorder = ended.disk;
+    for lead in 0..255 {
+        expect_lead(&rt, &recorder, lead);
+    }
+    recorder.expect_rest(
+        &rt,
+        FRESH + 6 * 255,
+        &[
+            Given::Write(1027),
+            Given::Write(1),
+            Given::Write(3),
+            Given::Sync,
+            Given::Write(0),
+            Given::Sync,
+            Given::Write(4),
+            Given::Write(5),
+            Given::Sync,
+            Given::Write(1030),
+            Given::Write(3),
+            Given::Sync,
+        ],
+    );
+    let shown = run_words(&rt, "show s", recorder.disk);
+    shown.expect(
+        &rt,
+        b"demo/a 1 ca978112ca1bbdcafac231b39a23dc4da786eff8147c4e72b9807785afee48bb 256\nlast 256\n",
+        &Status::Done,
+    );
+    Ok(())
 }

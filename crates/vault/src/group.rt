@@ -6,7 +6,7 @@ ghost use Rattle.std.specs.FinMap as map;
 ghost use Rattle.blob_base.specs.declared.faults.StoreRefusal.{StoreRefusal as Why};
 ghost use Rattle.disk_model.specs.Disks.{Keeps, OnlyReads, OnlyWrites};
 ghost use Rattle.frame_codec.specs.Values.{model_entries};
-ghost use Rattle.group_plan.specs.Plans.{committed, members_of};
+ghost use Rattle.group_plan.specs.Plans.{committed, members_of, model_reply};
 ghost use Rattle.recover.specs.Faults.{CameFrom, IsRead};
 ghost use Rattle.recover.specs.Openings.{IsFound, IsMetadata};
 ghost use Rattle.recover.specs.Turns.{IsTurnPage};
@@ -16,6 +16,7 @@ ghost use Rattle.relation.specs.Parts.{encoded_by};
 ghost use Rattle.store_model.specs.Cost.{Cost, with_opening, with_turn};
 ghost use Rattle.store_model.specs.Disk.{Took};
 ghost use Rattle.store_model.specs.Frame.{body_bytes, body_spelling};
+ghost use Rattle.store_model.specs.Group.{commits_of, reply_of};
 ghost use Rattle.store_model.specs.Images.{Settled};
 ghost use Rattle.store_model.specs.Layout.{Layout, data_pages};
 ghost use Rattle.store_model.specs.Log.{body_pages};
@@ -123,6 +124,10 @@ impl<D: Disk> Vault<D> {
         ensures led { (store : ModelStore) → StoreStands self.old.memory store
             → IfOk result (λ replies. Led D.Disk self.old.disk self.new.disk self.old.memory store queue.old
             (members_of (ledger_in self.old.memory) queue.old) replies self.new.memory) }
+        // Whatever store memory is at, the group is judged by what memory has, and one without a commit changes nothing.
+        ensures replied { IfOk result (λ replies. each model_reply replies ≡ each reply_of (members_of (ledger_in self.old.memory) queue.old)) }
+        ensures idle { commits_of (members_of (ledger_in self.old.memory) queue.old) ≡ []
+            → OnOk result (IsUnmade self.old.disk self.new.disk self.old.memory self.new.memory self.old.shut self.new.shut) }
         ensures wrote { (self.new.disk ≡ self.old.disk) ⊎ MayHaveWritten D.Disk self.old.memory queue.old
             (members_of (ledger_in self.old.memory) queue.old) self.old.disk self.new.disk }
         ensures few { IfOk result (λ replies. length replies ≤ length queue.old) }

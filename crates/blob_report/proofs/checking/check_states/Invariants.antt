@@ -1,9 +1,15 @@
-use Rattle.std.proofs.Common.{take}
+use Rattle.std.proofs.Common.{◌≡◌, None, take}
 use Rattle.std.specs.FinMap.{entries}
+use Rattle.vault.specs.Vaults.{IsVault}
 use Rattle.blob_report.specs.Checks.{DidCheck, HasCounted}
 use Rattle.blob_report.proofs.checking.check_states.Given as goal
 
--- the first states are checked
+-- the contents of the first keys are checked, and the vault is as it was
 abbrev pub invariant-checked : goal.invariant-checked
 invariant-checked g l =
-    DidCheck g.K.Sink g.D.Disk l.found.layout (take l.i (entries l.found.relation.states)) (HasCounted l.checked) l.fn.sink l.sink l.fn.disk l.disk
+    record {
+      did : DidCheck g.K.Sink g.D.Disk l.fn.vault.memory.layout (take l.i (entries l.fn.vault.memory.relation.states)) (HasCounted l.checked) l.fn.sink l.sink l.fn.vault.disk l.vault.disk;
+      keeps : IsVault g.D.Disk l.vault.disk l.vault.memory l.vault.shut;
+      memory : l.vault.memory ≡ l.fn.vault.memory;
+      shut : l.vault.shut ≡ None;
+    }

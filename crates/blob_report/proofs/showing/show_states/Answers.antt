@@ -1,7 +1,7 @@
-use Rattle.std.proofs.Common.{◌≡◌, ℕ, ◌+◌, ◌∙◌, List, take, drop, sym, subst, arith}
+use Rattle.std.proofs.Common.{◌≡◌, ℕ, ◌+◌, ◌∙◌, List, take, drop, subst, arith}
 use Rattle.std.proofs.lemmas.Result.{err_from_is_err_and}
 use Rattle.std.specs.FinMap.{entries, len-entries}
-use Rattle.recover.proofs.Puttings.{all-put}
+use Rattle.group_plan.proofs.Walks.{take-end}
 use Rattle.store_model.specs.Report.{state_line}
 use Rattle.store_model.specs.State.{State}
 use Rattle.blob_report.specs.Ends.{BrokeOff, HasPrinted}
@@ -36,4 +36,4 @@ pub returns-clause-ok : goal.returns-clause-ok
 returns-clause-ok g c =
     let es = entries c.args.relation.now.states in
     subst (λ es. HasPrinted g.K.Sink (states_text es) c.args.sink.now c.shown.sink)
-    (all-put es c.shown.i c.len-i-end.result (omega (arith, c.shown-test.false, c.shown.auto.i-end)) (sym (len-entries c.args.relation.now.states) ∙ sym c.len-i-end.ensures)) c.shown.invariant
+    (take-end es c.shown.i (omega (arith, c.shown-test.false, len-entries c.args.relation.now.states, c.len-i-end.ensures))) c.shown.invariant

@@ -2,7 +2,9 @@ use Rattle.std.proofs.Common.{sym, ap, ◌∙◌, subst}
 use Rattle.vault.specs.declared.vault.Vault.{Vault}
 use Rattle.blob_script.specs.declared.status.Status.{Status}
 use Rattle.blob_steps.specs.Runs.{Ended, EndedSo}
+use Rattle.blob_steps.specs.Breaks.{ComingTo, EndsAtBreak}
 use Rattle.blob_steps.specs.Going.{StartsOn}
+use Rattle.blob_steps.proofs.Breaking.{coming-over}
 use Rattle.blob_steps.specs.Steps.{HaveBegun}
 use Rattle.blob_steps.proofs.OnTheWay.{Ended-no_memory, ended-status, starts-over}
 use Rattle.blob_steps.proofs.run.run_script.Goals as goal
@@ -34,3 +36,15 @@ returns-clause-so g c =
 
 pub answer_all-requires-clause-begun : goal.answer_all-requires-clause-begun
 answer_all-requires-clause-begun g c = subst (λ w. HaveBegun 0 w) (sym c.over-run.ensures.world) c.over-world.ensures.begun
+
+pub returns-clause-breaks : goal.returns-clause-breaks
+returns-clause-breaks g c = λ told image start script one known pages left_is comes.
+    let vault = c.args.vault in
+    let same = c.over-world.ensures.vault in
+    let left = g.S.Source.left c.args.source.now in
+    let coming = coming-over g.D.Disk c.over-world.result vault image start script one left same (c.over-world.ensures.known start known) pages left_is comes in
+    let layout = vault.memory.layout in
+    let states = vault.memory.relation.states in
+    ended-status (EndsAtBreak one) c.answer_all.result c.ended_status-status.result c.ended_status-status.ensures
+    (c.answer_all.ensures.breaks told layout image states one
+    (subst (λ w. ComingTo g.D.Disk layout image states one 1 left w) (sym c.over-run.ensures.world) coming))

@@ -12,6 +12,7 @@ returns-in-Ok-clause-did g c = λ cost.
       stands = opened.stands;
       wrote = opened.wrote;
       ended = ran.ended;
+      breaks = ran.breaks;
       so = ran.so;
       own = ran.own;
       among = ran.among;

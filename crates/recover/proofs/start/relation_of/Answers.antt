@@ -1,53 +1,36 @@
-use Rattle.std.proofs.Common.{◌≡◌, ℕ, ◌+◌, ◌≤◌, ◌∙◌, List, length, sym, ap, subst, arith, Some}
-use Rattle.std.specs.Prelude.{slice_get}
+use Rattle.std.proofs.Common.{rules, ◌≡◌, ◌∙◌, ℕ, List, length, refl, ap, arith}
 use Rattle.std.proofs.lemmas.List.{length-map}
-use Rattle.std.specs.FinMap.{FinMap, contains_key}
+use Rattle.std.specs.FinMap.{insert}
+use Rattle.std.specs.Vec.Iter.{into_iter_items, into_iter_len}
 use Rattle.check_point.specs.Tuples.{model_tuple, model_tuples}
-use Rattle.relation.specs.Changes.{bytes_limit}
-use Rattle.store_model.specs.Key.{key_order}
 use Rattle.store_model.specs.State.{State}
-use Rattle.recover.proofs.Settings.{Setting, Setting-all, Setting-next, Setting-none, map-at, set-bytes, spare-less}
+use Rattle.recover.proofs.Adoptings.{Adopting-all, Adopting-bytes, Adopting-missing, Adopting-next, Adopting-none}
 use Rattle.recover.proofs.start.relation_of.Goals as goal
 
--- a key with its state
-abbrev pair : List ℕ → State → List ℕ × State
-pair key state = (key, state)
+pub adopted-init : goal.adopted-init
+adopted-init c =
+    let long : into_iter_len c.into_iter-tuple-iterator.result ≡ length (into_iter_items c.into_iter-tuple-iterator.result) = search rules in
+    Adopting-none (model_tuples c.args.tuples) _ _ c.new-relation.result.states c.new-relation.ensures.states
+    (ap model_tuples (c.into_iter-tuple-iterator.ensures.into_iter_gives.0 ∙ c.into_vec-tuple-items.ensures))
+    (omega (arith, long, length-map {B = List ℕ × State} (into_iter_items c.into_iter-tuple-iterator.result) model_tuple))
 
-pub set-init : goal.set-init
-set-init c =
-    Setting-none (model_tuples c.args.tuples.now) c.reserve.new.self.states c.reserve.new.self.spare (c.reserve.ensures.states ∙ c.new-relation.ensures.states)
-    (omega (arith, c.in_ok-reserve.ensures.spare, c.len.ensures, length-map {B = List ℕ × State} c.args.tuples.now model_tuple))
+pub adopt-requires-clause-missing : goal.adopt-requires-clause-missing
+adopt-requires-clause-missing c =
+    Adopting-missing c.requires.0 (model_tuples c.args.tuples) _ (model_tuples (into_iter_items c.next.new.self)) _ c.adopted.relation.states (model_tuple c.in-Some.tuple)
+    c.requires.1 c.adopted.invariant (ap model_tuples c.in-Some.ensures.steps.0)
 
-pub set-requires-clause-bytes : goal.set-requires-clause-bytes
-set-requires-clause-bytes c =
-    let states : FinMap key_order State = c.requires.0 in
-    let one : List ℕ × State = (c.copy.result, c.copy-in-set.result) in
-    let there : slice_get (model_tuples c.args.tuples.now) c.set.i ≡ Some one =
-    map-at {Y = List ℕ × State} model_tuple c.args.tuples.now c.set.i c.get-tuple.result.now c.get-tuple.ensures
-    ∙ ap (λ (k : List ℕ). Some (pair k c.get-tuple.result.now.state)) (sym c.copy.ensures) ∙ ap (λ (s : State). Some (pair c.copy.result s)) (sym c.copy-in-set.ensures) in
-    omega (
-      arith,
-      set-bytes states c.set.i bytes_limit c.set.relation.states c.set.relation.spare one
-          (subst (λ (es : List (List ℕ × State)). Setting es c.set.i c.set.relation.states c.set.relation.spare) (sym c.requires.1) c.set.invariant)
-          (subst (λ (es : List (List ℕ × State)). slice_get es c.set.i ≡ Some one) (sym c.requires.1) there) c.requires.2,
-    )
+pub adopt-requires-clause-bytes : goal.adopt-requires-clause-bytes
+adopt-requires-clause-bytes c =
+    let one : List ℕ × State = model_tuple c.in-Some.tuple in
+    let left : List (List ℕ × State) = model_tuples (into_iter_items c.next.new.self) in
+    let next = Adopting-next c.requires.0 (model_tuples c.args.tuples) _ left _ (into_iter_len c.next.new.self) c.adopted.relation.states (insert c.adopted.relation.states one.0 one.1) one
+    c.requires.1 c.adopted.invariant (ap model_tuples c.in-Some.ensures.steps.0) c.in-Some.ensures.steps.1 refl in
+    omega (arith, c.requires.2, Adopting-bytes c.requires.0 (model_tuples c.args.tuples) left _ _ c.requires.1 next)
 
-pub set-preserved : goal.set-preserved
-set-preserved c =
-    let states : FinMap key_order State = c.requires.0 in
-    let one : List ℕ × State = (c.copy.result, c.copy-in-set.result) in
-    let there : slice_get (model_tuples c.args.tuples.now) c.set.i ≡ Some one =
-    map-at {Y = List ℕ × State} model_tuple c.args.tuples.now c.set.i c.get-tuple.result.now c.get-tuple.ensures
-    ∙ ap (λ (k : List ℕ). Some (pair k c.get-tuple.result.now.state)) (sym c.copy.ensures) ∙ ap (λ (s : State). Some (pair c.copy.result s)) (sym c.copy-in-set.ensures) in
-    let spares : c.set.relation.spare ≤ c.set-in-set.new.self.spare + 1 = spare-less (contains_key c.set.relation.states c.copy.result) c.set.relation.spare c.set-in-set.new.self.spare c.set-in-set.ensures.spare in
-    subst (λ (es : List (List ℕ × State)). Setting es (c.set.i + 1) c.set-in-set.new.self.states c.set-in-set.new.self.spare) c.requires.1
-    (Setting-next states c.set.i c.set.relation.states c.set-in-set.new.self.states c.set.relation.spare c.set-in-set.new.self.spare one
-    (subst (λ (es : List (List ℕ × State)). Setting es c.set.i c.set.relation.states c.set.relation.spare) (sym c.requires.1) c.set.invariant)
-    (subst (λ (es : List (List ℕ × State)). slice_get es c.set.i ≡ Some one) (sym c.requires.1) there) c.set-in-set.ensures.states spares)
+pub adopted-preserved : goal.adopted-preserved
+adopted-preserved c =
+    Adopting-next c.requires.0 (model_tuples c.args.tuples) _ (model_tuples (into_iter_items c.next.new.self)) _ (into_iter_len c.next.new.self) c.adopted.relation.states c.adopt.new.self.states
+    (model_tuple c.in-Some.tuple) c.requires.1 c.adopted.invariant (ap model_tuples c.in-Some.ensures.steps.0) c.in-Some.ensures.steps.1 c.in_ok-adopt.ensures.states
 
 pub returns : goal.returns
-returns c states are =
-    Setting-all states c.set.i c.len-i-end.result c.set.relation.states c.set.relation.spare
-    (subst (λ (es : List (List ℕ × State)). Setting es c.set.i c.set.relation.states c.set.relation.spare) (sym are) c.set.invariant)
-    (omega (arith, c.set-test.false, c.set.auto.i-end))
-    (ap length are ∙ length-map {B = List ℕ × State} c.args.tuples.now model_tuple ∙ sym c.len-i-end.ensures)
+returns c states are = Adopting-all states (model_tuples c.args.tuples) _ _ c.adopted.relation.states are c.adopted.invariant c.in-None.ensures.steps.0

@@ -1,12 +1,17 @@
-use Rattle.std.proofs.Common.{◌≡◌, ℕ, ◌≤◌, Option, List}
+use Rattle.std.proofs.Common.{◌≡◌, ℕ, ◌≤◌, IsTrue}
+use Rattle.std.specs.FinMap.{FinMap}
 use Rattle.std.specs.Io.KnownBytes.{prepend_known}
 use Rattle.disk_model.specs.declared.disk.Disk as disk_trait
 use Rattle.io_ends.specs.declared.traits.Source as source_trait
 use Rattle.io_ends.specs.declared.traits.Sink as sink_trait
 use Rattle.store_model.specs.Cost.{Cost}
+use Rattle.store_model.specs.Disk.{Image}
+use Rattle.store_model.specs.Key.{key_order}
 use Rattle.store_model.specs.Layout.{Layout}
+use Rattle.store_model.specs.Report.{Damage}
+use Rattle.store_model.specs.State.{State}
 use Rattle.store_model.specs.Store.{Store}
-use Rattle.vault.specs.Vaults.{IsVault}
+use Rattle.blob_steps.specs.Breaks.{ComingTo}
 use Rattle.blob_steps.specs.Going.{Going, GoingSo, StartsOn}
 use Rattle.blob_steps.specs.Runs.{KeepsEnds}
 use Rattle.blob_steps.specs.Steps.{HaveBegun, IsWorld}
@@ -30,4 +35,7 @@ invariant-loop-number g l =
     ((start : Store) (cost : Cost) → StartsOn g.D.Disk start cost l.fn.self.world
     → Going g.D.Disk start cost cost l.self.world l.number (source.left l.fn.source) left (sink.taken l.fn.sink) (sink.taken l.sink) l.fn.self.world.vault.disk)
     × GoingSo l.number (source.left l.fn.source) left (sink.taken l.fn.sink) (sink.taken l.sink)
+    × (IsTrue g.D.Disk.tells → (layout : Layout) (image : Image) (states : FinMap key_order State) (one : Damage)
+    → ComingTo g.D.Disk layout image states one 1 (source.left l.fn.source) l.fn.self.world
+    → ComingTo g.D.Disk layout image states one l.number left l.self.world)
     × RunKept source sink g.D.Disk l.fn.self.world l.self.world l.number l.fn.source l.fn.sink l.source l.sink

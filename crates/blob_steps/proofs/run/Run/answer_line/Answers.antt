@@ -6,7 +6,10 @@ use Rattle.blob_script.specs.Words.{model_step}
 use Rattle.store_model.specs.Play.{step_play}
 use Rattle.store_model.specs.Script.{Asks}
 use Rattle.blob_steps.specs.Nexts.{IsNext, IsUnbuilt}
-use Rattle.blob_steps.specs.Steps.{CameTo, HaveBegun, IsWorld, WorldStands}
+use Rattle.blob_steps.specs.Breaks.{EndsBreaking, NeverBreaks}
+use Rattle.blob_steps.specs.Steps.{CameTo, DoesFollow, HaveBegun, WorldKnown, WorldStands}
+use Rattle.blob_steps.specs.declared.world.Played.TheVariants.{Answered}
+use Rattle.blob_steps.proofs.Breaking.{EndsAtBreak-printing, coming-end, coming-ended, coming-next, coming-reading, coming-skipped}
 use Rattle.blob_steps.specs.Going.{TakesLine}
 use Rattle.blob_steps.specs.declared.world.World.{World}
 use Rattle.blob_steps.proofs.OnTheWay.{EndedSo-over, EndedSo-printing, EndedSo-reading, EndedSo-step, Ended-over, Ended-printing, Ended-reading, Ended-step, GoingSo-next, GoingSo-skipped, Going-next, Going-skipped, held-now}
@@ -155,3 +158,61 @@ returns-in-End-clause-so g c = λ first old going.
     let left = prepend_known c.args.self.now.reader (g.S.Source.left c.args.source.now) in
     let rest = prepend_known c.next.new.self.reader (g.S.Source.left c.next.new.source) in
     EndedSo-over c.args.number first left old (g.K.Sink.taken c.args.sink.now) going (subst (IsNext c.args.number left rest) c.in-End.is c.in_ok-step.ensures.next)
+
+pub returns-in_err-step-clause-breaks : goal.returns-in_err-step-clause-breaks
+returns-in_err-step-clause-breaks g c = λ told layout image states one coming.
+    let p = err_from_is_err_and c.from_residual.result c.from_residual.ensures.1 in
+    let left = prepend_known c.args.self.now.reader (g.S.Source.left c.args.source.now) in
+    rw (p.1, p.2)
+    (coming-reading g.D.Disk layout image states one c.args.number left c.args.self.now.world coming c.in_err-step.field-0.0
+    (g.S.Source.faults c.args.source.now) (g.S.Source.faults c.next.new.source) c.in_err-step.ensures.ends)
+
+pub returns-in_err-do_step-in-Step-clause-breaks : goal.returns-in_err-do_step-in-Step-clause-breaks
+returns-in_err-do_step-in-Step-clause-breaks g c = λ told layout image states one coming.
+    let p = err_from_is_err_and c.from_residual-in_err-do_step-in-Step.result c.from_residual-in_err-do_step-in-Step.ensures.1 in
+    let failed = c.in_err-do_step-in-Step.ensures in
+    let left = prepend_known c.args.self.now.reader (g.S.Source.left c.args.source.now) in
+    let rest = prepend_known c.next.new.self.reader (g.S.Source.left c.next.new.source) in
+    let read = subst (IsNext c.args.number left rest) c.in-Step.is c.in_ok-step.ensures.next in
+    let world = c.in_ok-step.ensures.world in
+    let known = subst (λ mine. WorldKnown mine coming.world) (sym world) coming.known in
+    rw (p.1, p.2)
+    (coming-ended g.D.Disk layout image states one c.args.number left c.args.self.now.world coming (model_step c.in-Step.step) rest read.1
+    c.in_err-do_step-in-Step.field-0.0
+    (subst (λ (w : World _). EndsBreaking g.D.Disk w coming.world (model_step c.in-Step.step) c.in_err-do_step-in-Step.field-0.0) world (failed.breaks told coming.world known)))
+
+pub returns-in_err-print-in-Step-clause-breaks : goal.returns-in_err-print-in-Step-clause-breaks
+returns-in_err-print-in-Step-clause-breaks g c = λ told layout image states one coming.
+    let p = err_from_is_err_and c.from_residual-in_err-print-in-Step.result c.from_residual-in_err-print-in-Step.ensures.1 in
+    let sink = g.K.Sink in
+    rw (p.1, p.2)
+    (EndsAtBreak-printing one c.in_err-print-in-Step.field-0.0 (sink.frugal c.args.sink.now) (sink.faults c.args.sink.now) (sink.faults c.print.new.sink)
+    c.in_err-print-in-Step.ensures.err.ends)
+
+pub returns-in_ok-print-in-Step-clause-breaks : goal.returns-in_ok-print-in-Step-clause-breaks
+returns-in_ok-print-in-Step-clause-breaks g c = λ told layout image states one coming.
+    let done = c.in_ok-do_step-in-Step.ensures in
+    let world = c.in_ok-step.ensures.world in
+    let source = g.S.Source.left c.next.new.source in
+    let left = prepend_known c.args.self.now.reader (g.S.Source.left c.args.source.now) in
+    let read = subst (IsNext c.args.number left (prepend_known c.next.new.self.reader source)) c.in-Step.is c.in_ok-step.ensures.next in
+    let takes = subst (λ (rest : Option (List ℕ)). TakesLine c.args.number left rest (Asks (model_step c.in-Step.step))) (sym (ap (λ reader. prepend_known reader source) done.reader)) read.1 in
+    let known = subst (λ mine. WorldKnown mine coming.world) (sym world) coming.known in
+    coming-next g.D.Disk layout image states one c.args.number left c.args.self.now.world coming (model_step c.in-Step.step) (prepend_known c.do_step.new.self.reader source) takes
+    c.do_step.new.self.world
+    (subst (λ (w : World _). NeverBreaks g.D.Disk w coming.world (model_step c.in-Step.step)) world (done.breaks told coming.world known))
+    (subst (λ (w : World _). DoesFollow g.D.Disk coming.world (model_step c.in-Step.step) w c.do_step.new.self.world Answered) world (done.follows coming.world known))
+    (done.layout ∙ ap (λ w. w.vault.memory.layout) world) told
+
+pub returns-in-Skipped-clause-breaks : goal.returns-in-Skipped-clause-breaks
+returns-in-Skipped-clause-breaks g c = λ told layout image states one coming.
+    let left = prepend_known c.args.self.now.reader (g.S.Source.left c.args.source.now) in
+    let rest = prepend_known c.next.new.self.reader (g.S.Source.left c.next.new.source) in
+    coming-skipped g.D.Disk layout image states one c.args.number left c.args.self.now.world coming c.next.new.self.world rest
+    (subst (IsNext c.args.number left rest) c.in-Skipped.is c.in_ok-step.ensures.next) c.in_ok-step.ensures.world
+
+pub returns-in-End-clause-breaks : goal.returns-in-End-clause-breaks
+returns-in-End-clause-breaks g c = λ told layout image states one coming.
+    let left = prepend_known c.args.self.now.reader (g.S.Source.left c.args.source.now) in
+    let rest = prepend_known c.next.new.self.reader (g.S.Source.left c.next.new.source) in
+    coming-end g.D.Disk layout image states one c.args.number left c.args.self.now.world coming (subst (IsNext c.args.number left rest) c.in-End.is c.in_ok-step.ensures.next)

@@ -2,7 +2,9 @@ use Rattle.std.proofs.Common.{refl, subst, sym}
 use Rattle.blob_script.specs.Words.{model_step}
 use Rattle.blob_script.specs.declared.status.Status.{Status}
 use Rattle.blob_steps.specs.Runs.{IsUndamaged, ShowsDamage}
-use Rattle.blob_steps.specs.Steps.{DoesPlay}
+use Rattle.blob_steps.specs.Breaks.{EndsBreaking}
+use Rattle.blob_steps.specs.Steps.{DoesFollow, DoesPlay}
+use Rattle.blob_steps.proofs.Breaking.{EndsBreaking-ending}
 use Rattle.blob_steps.specs.declared.world.Played.{Played}
 use Rattle.blob_steps.proofs.OnTheWay.{ShowsDamage-ending, undamaged-ending}
 use Rattle.blob_steps.proofs.run.Run.do_step.Goals as goal
@@ -27,3 +29,18 @@ returns-in-Err-clause-damage g c = λ world is.
 pub returns-in-Err-clause-whole : goal.returns-in-Err-clause-whole
 returns-in-Err-clause-whole g c = λ told world is held.
     subst IsUndamaged (sym c.step_status.ensures) (undamaged-ending c.in-Err.fault (c.in-Err.ensures.stepped.whole told world is held))
+
+pub returns-in-Ok-Answered-clause-follows : goal.returns-in-Ok-Answered-clause-follows
+returns-in-Ok-Answered-clause-follows g c = λ world is.
+    subst (λ (p : Played). DoesFollow g.D.Disk world (model_step c.args.step) c.args.self.now.world c.step.new.self p)
+    c.in-Ok-Answered.field-0-is (c.in-Ok-Answered.ensures.follows world is)
+
+pub returns-in-Ok-NotBuilt-clause-breaks : goal.returns-in-Ok-NotBuilt-clause-breaks
+returns-in-Ok-NotBuilt-clause-breaks g c = λ told world is.
+    subst (λ (p : Played). DoesFollow g.D.Disk world (model_step c.args.step) c.args.self.now.world c.step.new.self p)
+    c.in-Ok-NotBuilt.field-0-is (c.in-Ok-NotBuilt.ensures.follows world is)
+
+pub returns-in-Err-clause-breaks : goal.returns-in-Err-clause-breaks
+returns-in-Err-clause-breaks g c = λ told world is.
+    subst (EndsBreaking g.D.Disk c.args.self.now.world world (model_step c.args.step)) (sym c.step_status.ensures)
+    (EndsBreaking-ending g.D.Disk c.args.self.now.world world (model_step c.args.step) c.in-Err.fault (c.in-Err.ensures.breaks told world is))

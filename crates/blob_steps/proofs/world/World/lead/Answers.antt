@@ -10,7 +10,7 @@ use Rattle.store_model.specs.Answer as answer
 use Rattle.store_model.specs.Answer.{answer_text}
 use Rattle.store_model.specs.Group.{no_tally}
 use Rattle.blob_steps.specs.declared.world.World.{World}
-use Rattle.blob_steps.proofs.Leading.{AreOf-some, HasLed, came-led, few-requests, group_members, lead-keeps, lead-none, led-begun, led-sound, length-some_members, replies-count, session-below, sessions-below, some_members}
+use Rattle.blob_steps.proofs.Leading.{AreOf-some, HasLed, came-led, few-requests, follows-led, follows-none, group_members, lead-keeps, lead-none, led-begun, led-sound, length-some_members, replies-count, session-below, sessions-below, some_members}
 use Rattle.blob_steps.proofs.Members.{AreOf-members}
 use Rattle.blob_steps.proofs.world.World.lead.Goals as goal
 
@@ -83,3 +83,30 @@ returns-clause-stepped g c =
       damage = λ world is. tt;
       whole = λ told world is stand. tt;
     }
+
+pub returns-then-is_empty-clause-follows : goal.returns-then-is_empty-clause-follows
+returns-then-is_empty-clause-follows g c = λ world is none.
+    let mine = c.args.self.now in
+    let empty : (length mine.queue == 0) ≡ true = sym c.is_empty.ensures ∙ c.if-is_empty.true in
+    follows-none g.D.Disk mine world is (nil_from_length mine.queue (grind (arith, nat_tests, empty)))
+
+pub returns-clause-follows : goal.returns-clause-follows
+returns-clause-follows g c = λ world is none.
+    let mine = c.args.self.now in
+    let middle : World _ = record { vault = c.lead.new.self; sessions = mine.sessions; queue = c.lead.new.queue } in
+    let new = c.reply_all.new.self in
+    let replies = c.in_ok-replies.replies in
+    let filled : (length mine.queue == 0) ≡ false = sym c.is_empty.ensures ∙ c.if-is_empty.false in
+    let some : 0 < length mine.queue = grind (arith, nat_tests, filled) in
+    follows-led g.D.Disk mine middle new replies world (length replies) is
+    (record {
+      sound = c.requires.sound;
+      sessions = refl;
+      queue = c.in_ok-replies.ensures.left;
+      layout = c.in_ok-replies.ensures.layout;
+      vault = c.in_ok-replies.ensures.keeps;
+      unshut = c.in_ok-replies.ensures.ok;
+      are = AreOf-members (ledger_in mine.vault.memory) (no_tally (ledger_in mine.vault.memory)) mine.queue;
+      count = replies-count replies (group_members g.D.Disk mine middle new replies) c.in_ok-replies.ensures.replied;
+      replied = subst (λ (ns : List ℕ). Replying (length replies) ns middle new) c.in_ok-numbers.ensures c.in_ok-reply_all.ensures.replied;
+    }) some c.in_ok-replies.ensures.idle none

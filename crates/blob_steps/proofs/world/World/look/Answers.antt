@@ -1,8 +1,8 @@
-use Rattle.std.proofs.Common.{List, ℕ, refl, ◌∙◌, ap, ◌++◌, Some, None}
+use Rattle.std.proofs.Common.{List, ℕ, refl, sym, ◌∙◌, ap, subst, ◌++◌, Some, None}
 use Rattle.std.proofs.lemmas.Result.{err_from_is_err_and}
 use Rattle.blob_script.specs.Answers.{model_line}
 use Rattle.blob_script.specs.declared.answer.AnswerLine.{AnswerLine}
-use Rattle.disk_model.proofs.DiskLaws.{Keeps-none}
+use Rattle.disk_model.proofs.DiskLaws.{Keeps-none, OnlyReads-none}
 use Rattle.std.specs.FinMap.{get}
 use Rattle.blob_steps.specs.Looks.{show_of}
 use Rattle.store_model.specs.Answer as answer
@@ -10,6 +10,8 @@ use Rattle.store_model.specs.World.{transaction_of}
 use Rattle.txn.specs.Txns.{own_bytes}
 use Rattle.store_model.specs.Answer.{answer_text}
 use Rattle.blob_steps.proofs.Looking.{WasLooked, came-as, came-line, came-own, came-stored, look-moves, look-stepped, same-looked, shown-among}
+use Rattle.blob_steps.proofs.Breaking.{broken-stored, follows-look, line-stored, own-stored, unbroken-line, unbroken-stored}
+use Rattle.blob_steps.specs.Steps.{Follows}
 use Rattle.blob_steps.specs.declared.world.World.{World}
 use Rattle.blob_steps.specs.Sessions.{look_action}
 use Rattle.store_model.specs.Play.{transact}
@@ -98,4 +100,60 @@ returns-clause-stepped g c =
           let left : WasLooked g.D.Disk mine new = record { memory = shown.memory; kept = shown.keeps; shut = shown.shut; queue = refl } in
           look-stepped g.D.Disk mine new c.args.session c.args.key.now c.in_ok-line.field-0 c.requires.sound left
           c.in_ok-line.ensures c.args.look c.match-branch-2.self tt w.self-is shown.only_reads.keeps)
+    ]
+
+pub returns-in-Own-clause-follows : goal.returns-in-Own-clause-follows
+returns-in-Own-clause-follows g c = λ world is.
+    let mine = c.args.self.now in
+    let new : World _ = record { vault = mine.vault; sessions = c.find.new.sessions; queue = mine.queue } in
+    follows-look g.D.Disk mine new c.args.session c.args.key.now c.in_ok-line.field-0 c.requires.sound (same-looked g.D.Disk mine new c.requires.sound refl refl)
+    c.in_ok-line.ensures world is c.args.look (OnlyReads-none g.D.Disk mine.vault.disk)
+
+pub returns-in-Own-clause-breaks : goal.returns-in-Own-clause-breaks
+returns-in-Own-clause-breaks g c = λ told world is.
+    let mine = c.args.self.now in
+    let new : World _ = record { vault = mine.vault; sessions = c.find.new.sessions; queue = mine.queue } in
+    unbroken-line g.D.Disk mine new c.args.session c.args.key.now c.in_ok-line.field-0 c.requires.sound (same-looked g.D.Disk mine new c.requires.sound refl refl)
+    c.in_ok-line.ensures world is c.args.look (own-stored c.in_ok-line.field-0 c.in-Own.is)
+
+pub returns-in_err-line-in-Stored-clause-breaks : goal.returns-in_err-line-in-Stored-clause-breaks
+returns-in_err-line-in-Stored-clause-breaks g c = λ told world is.
+    let p = err_from_is_err_and c.from_residual-in_err-line-in-Stored.result c.from_residual-in_err-line-in-Stored.ensures.1 in
+    let shown = c.in_err-line-in-Stored.ensures in
+    let mine = c.args.self.now in
+    let new : World _ = record { vault = mine.vault; sessions = c.find.new.sessions; queue = mine.queue } in
+    rw (p.1, p.2)
+    (broken-stored g.D.Disk mine new c.args.session c.args.key.now c.in_ok-line.field-0 c.requires.sound (same-looked g.D.Disk mine new c.requires.sound refl refl)
+    c.in_ok-line.ensures world is c.args.look c.in_err-line-in-Stored.field-0.0 shown.get c.in-Stored.is shown.damaged (shown.fails told))
+
+pub returns-clause-follows : goal.returns-clause-follows
+returns-clause-follows g c = λ world is.
+    let mine = c.args.self.now in
+    let after = (transact world c.args.session (look_action c.args.look c.args.key.now)).world in
+    elim c.match-branch-2.branch [
+      | in-Line w ↦
+          (let new : World _ = record { vault = mine.vault; sessions = c.find.new.sessions; queue = mine.queue } in
+          subst (λ (later : World _). Follows g.D.Disk after mine later) (sym w.self-is)
+          (follows-look g.D.Disk mine new c.args.session c.args.key.now c.in_ok-line.field-0 c.requires.sound (same-looked g.D.Disk mine new c.requires.sound refl refl)
+          c.in_ok-line.ensures world is c.args.look (OnlyReads-none g.D.Disk mine.vault.disk)))
+      | in-Stored+in_ok-line-in-Stored w ↦
+          (let new : World _ = record { vault = w.show.new.vault; sessions = c.find.new.sessions; queue = mine.queue } in
+          let shown = w.in_ok-line-in-Stored.ensures in
+          let left : WasLooked g.D.Disk mine new = record { memory = shown.memory; kept = shown.keeps; shut = shown.shut; queue = refl } in
+          subst (λ (later : World _). Follows g.D.Disk after mine later) (sym w.self-is)
+          (follows-look g.D.Disk mine new c.args.session c.args.key.now c.in_ok-line.field-0 c.requires.sound left c.in_ok-line.ensures world is c.args.look shown.only_reads))
+    ]
+
+pub returns-clause-breaks : goal.returns-clause-breaks
+returns-clause-breaks g c = λ told world is.
+    let mine = c.args.self.now in
+    let new : World _ = record { vault = mine.vault; sessions = c.find.new.sessions; queue = mine.queue } in
+    let left : WasLooked g.D.Disk mine new = same-looked g.D.Disk mine new c.requires.sound refl refl in
+    elim c.match-branch-2.branch [
+      | in-Line w ↦
+          unbroken-line g.D.Disk mine new c.args.session c.args.key.now c.in_ok-line.field-0 c.requires.sound left
+          c.in_ok-line.ensures world is c.args.look (line-stored c.in_ok-line.field-0 w.in-Line.line w.in-Line.is)
+      | in-Stored+in_ok-line-in-Stored w ↦
+          unbroken-stored g.D.Disk mine new c.args.session c.args.key.now c.in_ok-line.field-0 c.requires.sound left
+          c.in_ok-line.ensures world is c.args.look (w.in_ok-line-in-Stored.ensures.verifies told)
     ]

@@ -42,3 +42,19 @@ returns-in_ok-checkpoint-in-Checkpoint-clause-play g c = λ world is.
 pub returns-in_ok-checkpoint-in-Checkpoint-clause-always : goal.returns-in_ok-checkpoint-in-Checkpoint-clause-always
 returns-in_ok-checkpoint-in-Checkpoint-clause-always g c = λ layout world.
     (checkpointed world, ap (λ (s : Step). step_play layout world (model_step s)) c.in-Checkpoint.is)
+
+pub returns-in-Session-clause-follows : goal.returns-in-Session-clause-follows
+returns-in-Session-clause-follows g c = λ world is. rw c.in-Session.is (c.turn.ensures.follows world is)
+
+pub returns-in-Session-clause-breaks : goal.returns-in-Session-clause-breaks
+returns-in-Session-clause-breaks g c = λ told world is. rw c.in-Session.is (c.turn.ensures.breaks told world is)
+
+pub returns-in_ok-lead-in-Lead-clause-follows : goal.returns-in_ok-lead-in-Lead-clause-follows
+returns-in_ok-lead-in-Lead-clause-follows g c = λ world is.
+    let layout = c.args.self.now.vault.memory.layout in
+    (lead layout world, ap (λ (s : Step). step_play layout world (model_step s)) c.in-Lead.is, λ none. c.in_ok-lead-in-Lead.ensures.follows world is none)
+
+pub returns-in_ok-checkpoint-in-Checkpoint-clause-follows : goal.returns-in_ok-checkpoint-in-Checkpoint-clause-follows
+returns-in_ok-checkpoint-in-Checkpoint-clause-follows g c = λ world is.
+    let layout = c.args.self.now.vault.memory.layout in
+    (checkpointed world, ap (λ (s : Step). step_play layout world (model_step s)) c.in-Checkpoint.is, λ none. c.in_ok-checkpoint-in-Checkpoint.ensures.follows world is)

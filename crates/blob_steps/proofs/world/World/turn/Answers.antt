@@ -12,6 +12,7 @@ use Rattle.blob_script.specs.declared.answer.AnswerLine.{AnswerLine}
 use Rattle.blob_steps.specs.Steps.{TakesTurn}
 use Rattle.blob_steps.specs.declared.world.Played.TheVariants.{Answered}
 use Rattle.blob_steps.proofs.Answering.{Stepped-err, ok-is, turn-failed, turn-plays, turn-stepped}
+use Rattle.blob_steps.proofs.Breaking.{follows-turn}
 use Rattle.blob_steps.proofs.world.World.turn.Goals.{in-Begin, in-Commit+in_ok-line-in-Commit, in-Abort, in-Put+in_ok-line-in-Put+in-Hex-1, in-Put+in_ok-line-in-Put+in-Made-1, in-Del+in_ok-line-in-Del}
 use Rattle.blob_steps.proofs.world.World.turn.Goals as goal
 
@@ -127,3 +128,67 @@ returns-clause-always g c = λ layout world.
       | in-Put+in_ok-line-in-Put+in-Made-1 w ↦ (transact world c.args.session (turn.Put w.in-Put.key (content_bytes w.in-Put.content)), ap (λ (a : Action). action_play world c.args.session (model_action a)) w.in-Put.is)
       | in-Del+in_ok-line-in-Del w ↦ (transact world c.args.session (turn.Delete w.in-Del.key), ap (λ (a : Action). action_play world c.args.session (model_action a)) w.in-Del.is)
     ]
+
+pub returns-clause-follows : goal.returns-clause-follows
+returns-clause-follows g c = λ world is.
+    let mine = c.args.self.now in
+    elim c.match-action.branch [
+      | in-Begin w ↦ (
+        transact world c.args.session turn.Begin,
+        ap (λ (a : Action). action_play world c.args.session (model_action a)) w.in-Begin.is,
+        λ none. follows-turn g.D.Disk mine w.begin-line.new.self c.match-action.self c.args.session turn.Begin world is w.begin-line.ensures w.self-is,
+      )
+      | in-Commit+in_ok-line-in-Commit w ↦ (
+        transact world c.args.session turn.Commit,
+        ap (λ (a : Action). action_play world c.args.session (model_action a)) w.in-Commit.is,
+        λ none. follows-turn g.D.Disk mine w.commit.new.self c.match-action.self c.args.session turn.Commit world is (ok-is (λ (l : AnswerLine). TakesTurn g.D.Disk mine w.commit.new.self c.args.session turn.Commit (model_line l)) w.commit.result w.in_ok-line-in-Commit.line w.in_ok-line-in-Commit.was w.commit.ensures.turn) w.self-is,
+      )
+      | in-Abort w ↦ (
+        transact world c.args.session turn.Abort,
+        ap (λ (a : Action). action_play world c.args.session (model_action a)) w.in-Abort.is,
+        λ none. follows-turn g.D.Disk mine w.abort-line.new.self c.match-action.self c.args.session turn.Abort world is w.abort-line.ensures w.self-is,
+      )
+      | in-Put+in_ok-line-in-Put+in-Hex-1 w ↦ (
+        transact world c.args.session (turn.Put w.in-Put.key (content_bytes w.in-Put.content)),
+        ap (λ (a : Action). action_play world c.args.session (model_action a)) w.in-Put.is,
+        λ none. follows-turn g.D.Disk mine w.put.new.self c.match-action.self c.args.session (turn.Put w.in-Put.key (content_bytes w.in-Put.content)) world is (ok-is (λ (l : AnswerLine). TakesTurn g.D.Disk mine w.put.new.self c.args.session (turn.Put w.in-Put.key (content_bytes w.in-Put.content)) (model_line l)) w.put.result w.in_ok-line-in-Put.line w.in_ok-line-in-Put.was w.put.ensures.turn) w.self-is,
+      )
+      | in-Put+in_ok-line-in-Put+in-Made-1 w ↦ (
+        transact world c.args.session (turn.Put w.in-Put.key (content_bytes w.in-Put.content)),
+        ap (λ (a : Action). action_play world c.args.session (model_action a)) w.in-Put.is,
+        λ none. follows-turn g.D.Disk mine w.put.new.self c.match-action.self c.args.session (turn.Put w.in-Put.key (content_bytes w.in-Put.content)) world is (ok-is (λ (l : AnswerLine). TakesTurn g.D.Disk mine w.put.new.self c.args.session (turn.Put w.in-Put.key (content_bytes w.in-Put.content)) (model_line l)) w.put.result w.in_ok-line-in-Put.line w.in_ok-line-in-Put.was w.put.ensures.turn) w.self-is,
+      )
+      | in-Del+in_ok-line-in-Del w ↦ (
+        transact world c.args.session (turn.Delete w.in-Del.key),
+        ap (λ (a : Action). action_play world c.args.session (model_action a)) w.in-Del.is,
+        λ none. follows-turn g.D.Disk mine w.del.new.self c.match-action.self c.args.session (turn.Delete w.in-Del.key) world is (ok-is (λ (l : AnswerLine). TakesTurn g.D.Disk mine w.del.new.self c.args.session (turn.Delete w.in-Del.key) (model_line l)) w.del.result w.in_ok-line-in-Del.line w.in_ok-line-in-Del.was w.del.ensures.turn) w.self-is,
+      )
+    ]
+
+pub returns-in-Get-clause-follows : goal.returns-in-Get-clause-follows
+returns-in-Get-clause-follows g c = λ world is. (
+  transact world c.args.session (turn.Get c.in-Get.key),
+  ap (λ (a : Action). action_play world c.args.session (model_action a)) c.in-Get.is,
+  λ none. c.in_ok-look-in-Get.ensures.follows world is,
+)
+
+pub returns-in_err-look-in-Get-clause-breaks : goal.returns-in_err-look-in-Get-clause-breaks
+returns-in_err-look-in-Get-clause-breaks g c = λ told world is.
+    let p = err_from_is_err_and c.from_residual-in_err-look-in-Get.result c.from_residual-in_err-look-in-Get.ensures.1 in
+    rw (p.1, p.2, c.in-Get.is) (c.in_err-look-in-Get.ensures.breaks told world is)
+
+pub returns-in-Stat-clause-follows : goal.returns-in-Stat-clause-follows
+returns-in-Stat-clause-follows g c = λ world is. (
+  transact world c.args.session (turn.Stat c.in-Stat.key),
+  ap (λ (a : Action). action_play world c.args.session (model_action a)) c.in-Stat.is,
+  λ none. c.in_ok-look-in-Stat.ensures.follows world is,
+)
+
+pub returns-in_err-look-in-Stat-clause-breaks : goal.returns-in_err-look-in-Stat-clause-breaks
+returns-in_err-look-in-Stat-clause-breaks g c = λ told world is.
+    let p = err_from_is_err_and c.from_residual-in_err-look-in-Stat.result c.from_residual-in_err-look-in-Stat.ensures.1 in
+    rw (p.1, p.2, c.in-Stat.is) (c.in_err-look-in-Stat.ensures.breaks told world is)
+
+pub returns-in-Get-clause-breaks : goal.returns-in-Get-clause-breaks
+returns-in-Get-clause-breaks g c = λ told world is.
+    rw c.in-Get.is (c.in_ok-look-in-Get.ensures.breaks told world is)

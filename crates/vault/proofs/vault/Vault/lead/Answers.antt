@@ -8,13 +8,13 @@ use Rattle.disk_model.specs.Disks.{OnlyWrites}
 use Rattle.disk_model.proofs.DiskLaws.{OnlyWrites-none}
 use Rattle.frame_codec.specs.Values.{model_entries}
 use Rattle.frame_codec.specs.declared.entry.Entry.{Entry}
-use Rattle.group_plan.specs.Plans.{IsEntryOf, committed, ledger_by, members_of}
+use Rattle.group_plan.specs.Plans.{IsEntryOf, committed, ledger_by, members_of, model_reply}
 use Rattle.meta_log.specs.Logs.{Parts as LogParts}
 use Rattle.recover.proofs.Puttings.{length-spelled}
 use Rattle.relation.specs.Changes.{with_entries}
 use Rattle.relation.specs.Parts.{Parts as RelationParts, encoded_by, owned_by}
 use Rattle.store_model.specs.Frame.{body_bytes, body_spelling}
-use Rattle.store_model.specs.Group.{Commit, commits_of, no_tally, taken_blocks}
+use Rattle.store_model.specs.Group.{Commit, commits_of, no_tally, reply_of, taken_blocks}
 use Rattle.store_model.specs.Judgement.{Ledger}
 use Rattle.store_model.specs.Key.{key_order}
 use Rattle.store_model.specs.Layout.{Layout, data_pages}
@@ -333,3 +333,43 @@ returns-clause-kept g c =
       opened = c.commit.ensures.opened;
       failed = c.in_ok-commit.ensures.unfailed;
     }))
+
+pub returns-then-is_empty-clause-replied : goal.returns-then-is_empty-clause-replied
+returns-then-is_empty-clause-replied g c =
+    let same = c.take_space.ensures.same in
+    let ledger_is : (ledger_by c.take_space.new.self.relation.states c.take_space.new.self.last c.states_bytes.result c.in_ok-space.space.pages) ≡ ledger_in c.args.self.now.memory =
+    λ i. ledger_by ((same.relation i).states) (same.last i) ((c.states_bytes.ensures.value ∙ ap (λ (l : Layout). states_bytes l) same.layout) i) (c.in_ok-space.ensures.pages i) in
+    subst (λ (l : Ledger). map model_reply c.in_ok-plan.plan.replies ≡ map reply_of (members_of l c.args.queue.now)) ledger_is c.in_ok-plan.ensures.planned.replies
+
+pub returns-clause-replied : goal.returns-clause-replied
+returns-clause-replied g c =
+    let same = c.take_space.ensures.same in
+    let ledger_is : (ledger_by c.take_space.new.self.relation.states c.take_space.new.self.last c.states_bytes.result c.in_ok-space.space.pages) ≡ ledger_in c.args.self.now.memory =
+    λ i. ledger_by ((same.relation i).states) (same.last i) ((c.states_bytes.ensures.value ∙ ap (λ (l : Layout). states_bytes l) same.layout) i) (c.in_ok-space.ensures.pages i) in
+    subst (λ (l : Ledger). map model_reply c.in_ok-plan.plan.replies ≡ map reply_of (members_of l c.args.queue.now)) ledger_is c.in_ok-plan.ensures.planned.replies
+
+pub returns-then-is_empty-clause-idle : goal.returns-then-is_empty-clause-idle
+returns-then-is_empty-clause-idle g c none =
+    let same = c.take_space.ensures.same in
+    record {
+      disk = refl;
+      layout = same.layout;
+      states = ap (λ (r : RelationParts). r.states) same.relation;
+      log = same.log;
+      last = same.last;
+      shut = refl;
+    }
+
+pub returns-clause-idle : goal.returns-clause-idle
+returns-clause-idle g c none =
+    let same = c.take_space.ensures.same in
+    let queue = c.args.queue.now in
+    let ledger : Ledger = (ledger_by c.take_space.new.self.relation.states c.take_space.new.self.last c.states_bytes.result c.in_ok-space.space.pages) in
+    let ledger_is : ledger ≡ ledger_in c.args.self.now.memory =
+    λ i. ledger_by ((same.relation i).states) (same.last i) ((c.states_bytes.ensures.value ∙ ap (λ (l : Layout). states_bytes l) same.layout) i) (c.in_ok-space.ensures.pages i) in
+    let es : List Entry = c.in_ok-plan.plan.entries in
+    let planned = c.in_ok-plan.ensures.planned in
+    let count : length es ≡ length (commits_of (members_of ledger queue)) = lead-count ledger queue es c.in_ok-plan.plan.members planned.entries planned.members_are in
+    let zero_commits : length (commits_of (members_of ledger queue)) ≡ 0 =
+    ap (λ (l : Ledger). length (commits_of (members_of l queue))) ledger_is ∙ ap (λ (commits : List Commit). length commits) none in
+    absurd (omega (arith, count, zero_commits, some-counted c.is_empty.result (length es) c.is_empty.ensures c.if-is_empty.false))
