@@ -11,13 +11,23 @@ use Rattle.blob_script.specs.declared.status.Status.TheVariants as status
 use Rattle.disk_model.specs.Disks.{OnlyReads}
 use Rattle.disk_model.specs.declared.disk.Disk as disk_trait
 use Rattle.io_ends.specs.declared.traits.Sink as sink_trait
+use Rattle.recover.specs.Openings.{LeavesOpening}
 use Rattle.recover.specs.declared.fault.RecoverFault.{RecoverFault}
 use Rattle.recover.specs.declared.fault.RecoverFault.TheVariants as fault
 use Rattle.store_model.specs.Disk.{Image}
+use Rattle.store_model.specs.Layout.{Layout}
 use Rattle.store_model.specs.Reading.{Found, Opened, Reads, Refused}
 use Rattle.store_model.specs.Report.{Damage, HasDamages, check_text, damage_line, show_text, state_line}
 use Rattle.store_model.specs.State.{State}
+use Rattle.store_model.specs.Store.{Store}
+use Rattle.store_model.specs.Survival.{ReadsAs}
 use Rattle.store_model.specs.Verify.{kept}
+
+-- A store with all its contents that the disk read as is what a crash leaves, at any moment from the return of the first sync on.
+abbrev pub StoreSurvives : {D : Type 0} → disk_trait.Ghosts D → D → D → Type 0
+StoreSurvives g old new =
+    IsTrue g.tells → (layout : Layout) (store : Store) → ReadsAs (g.size old) (g.story old).reads layout store.objects store.last
+    → LeavesOpening g (λ image. ReadsAs (g.size old) image layout store.objects store.last) old new
 
 -- the status of a disk that wasn't opened, or wasn't formatted
 abbrev pub opening_ending : RecoverFault → Status

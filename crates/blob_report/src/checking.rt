@@ -9,7 +9,7 @@ ghost use Rattle.store_model.specs.Report.{Damage, check_text};
 ghost use Rattle.store_model.specs.State.{State};
 ghost use Rattle.vault.specs.Vaults.{IsVault, found_of};
 ghost use Rattle.blob_report.specs.Ends.{IsCaused};
-ghost use Rattle.blob_report.specs.Reports.{Checked as DidCheckStore, NamesDamage, damages_text, verdict_of};
+ghost use Rattle.blob_report.specs.Reports.{Checked as DidCheckStore, NamesDamage, StoreSurvives, damages_text, verdict_of};
 ghost use Rattle.blob_report.specs.Checks.{AddsTo, BrokeCheck, DidCheck, HasCounted, WasChecked};
 
 use crate::printing::print;
@@ -142,6 +142,9 @@ pub fn run_check<K: Sink, D: Disk>(alloc: Global, sink: &mut K, disk: D) -> (Sta
 
     // No page of the data area was written, and a crash leaves each as before.
     ensures wrote { OnlyWrites D.Disk (IsMetadata (D.size disk) (D.story disk).reads) disk result.1 }
+
+    // And the store that there was survives a crash at any moment from the return of the first sync on.
+    ensures survives { StoreSurvives D.Disk disk result.1 }
     ensures caused { IsCaused result.0 (K.faults sink.old) (K.faults sink.new) (D.faults disk) (D.faults result.1) }
     ensures keeps { KeepsEnd K.faults K.frugal sink.old sink.new }
 {

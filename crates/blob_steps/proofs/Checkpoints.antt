@@ -21,6 +21,7 @@ use Rattle.store_model.specs.World as model
 use Rattle.store_model.specs.World.{checkpointed}
 use Rattle.vault.specs.Leads.{Costs, IsLeadPage}
 use Rattle.vault.specs.Vaults.{SameHeld}
+use Rattle.vault.proofs.Offs.{turn-before, turn-page}
 use Rattle.vault.specs.declared.vault.Vault.{Vault}
 use Rattle.blob_steps.specs.Known.{AllKnown}
 use Rattle.blob_steps.specs.Steps.{CameTo, Follows, WorldKnown, WorldStands}
@@ -45,26 +46,6 @@ AllStand-same from old new layout objects same stand key object there =
       filled = λ later page is. same page ∙ one.filled later page is;
     }
 
--- no page of a half's states is one of the data area
-states-before : (layout : Layout) (half p : ℕ) → half ≤ 1 → p < states_page layout half + layout.room → data_page layout ≤ p → ⊥
-states-before layout zero p two to past = omega (arith, to, past)
-states-before layout (suc zero) p two to past = omega (arith, to, past)
-states-before layout (suc (suc n)) p two to past = omega (arith, two)
-
--- nor is one of a turn
-turn-before : (layout : Layout) (half p : ℕ) → half ≤ 1 → data_page layout ≤ p → IsTurnPage layout half p → ⊥
-turn-before layout half p two past (inr is) = omega (arith, is, past)
-turn-before layout half p two past (inl (inl inside)) = states-before layout half p two inside.to past
-turn-before layout half p two past (inl (inr (inl header))) = omega (arith, header, past, two)
-turn-before layout half p two past (inl (inr (inr gate))) = omega (arith, gate, past, two)
-
--- each page of a turn is one before the data area
-turn-lead : (layout : Layout) (taken : List Block) (half p : ℕ) → half ≤ 1 → IsTurnPage layout half p → IsLeadPage layout taken p
-turn-lead layout taken half p two page = elim (cases_lt p (data_page layout)) [
-  | inl before ↦ inl before
-  | inr past ↦ absurd (turn-before layout half p two past page)
-]
-
 -- a vault that was turned is where a checkpoint leads
 pub came-turned : {D : Type 0} (g : Ghosts D) (mine : World D) (vault : Vault D) (world : model.World) (text : List ℕ) (half : ℕ) → half ≤ 1 → WorldStands mine world
     → SameHeld mine.vault.memory vault.memory → OnlyWrites g (IsTurnPage mine.vault.memory.layout half) mine.vault.disk vault.disk
@@ -88,7 +69,7 @@ came-turned g mine vault world text half two is same wrote costs text_is =
             AllStand-same from (g.story mine.vault.disk).reads (g.story vault.disk).reads layout world.store.objects
             (λ at. (wrote.wrote told).reads (data_page layout + at) (λ page. turn-before layout half (data_page layout + at) two (omega arith) page)) stand;
         wrote = (OnlyWrites-wider g (IsTurnPage layout half) (IsLeadPage layout []) mine.vault.disk vault.disk
-            (λ p page. turn-lead layout [] half p two page) wrote).wrote;
+            (λ p page. turn-page layout [] half p two page) wrote).wrote;
         costs = costs;
       };
       text_is = λ told stand. text_is;

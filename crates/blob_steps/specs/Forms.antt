@@ -5,7 +5,7 @@ use Rattle.std.specs.Io.KnownBytes.{Appends}
 use Rattle.blob_base.specs.declared.faults.StoreRefusal.{StoreRefusal}
 use Rattle.blob_base.specs.declared.faults.StoreRefusal.TheVariants.{TooSmall}
 use Rattle.blob_report.specs.Ends.{TookFront}
-use Rattle.blob_report.specs.Reports.{Checked, IsAtWork, NamesDamage, Showed, TurnedAway}
+use Rattle.blob_report.specs.Reports.{Checked, IsAtWork, NamesDamage, Showed, StoreSurvives, TurnedAway}
 use Rattle.blob_script.specs.declared.form.Form as command
 use Rattle.blob_script.specs.declared.form.Form.TheVariants as command_form
 use Rattle.blob_script.specs.declared.status.Status.{Status}
@@ -128,19 +128,22 @@ pub record DidFormat {K D : Type 0} (sink : sink_trait.Ghosts K) (disk : disk_tr
   pub reads : IsTrue disk.tells → how ≡ status.Done → Reads (disk.size disk_old) (disk.story disk_new).reads (Opened (found_by layout 0 empty))
   pub wrote : OnlyWrites disk (IsTurnPage layout 0) disk_old disk_new
 
--- A store was opened and shown: its report was printed, or why not. No page of its data area has changed, now or in a crash.
+-- A store was opened and shown: its report was printed, or why not. No page of its data area has changed, now or in a crash, and a crash
+-- leaves the store that there was.
 pub record DidShow {K D : Type 0} (sink : sink_trait.Ghosts K) (disk : disk_trait.Ghosts D)
     (sink_old : K) (disk_old : D) (how : Status) (sink_new : K) (disk_new : D) : Type 0 where
   pub showed : Showed sink disk how sink_old sink_new disk_old disk_new
   pub wrote : OnlyWrites disk (IsMetadata (disk.size disk_old) (disk.story disk_old).reads) disk_old disk_new
+  pub survives : StoreSurvives disk disk_old disk_new
 
 -- A store was opened and checked: its report was printed, or why not. Damage that is told is that of a state. No page of its data area
--- has changed, now or in a crash.
+-- has changed, now or in a crash, and a crash leaves the store that there was.
 pub record DidCheck {K D : Type 0} (sink : sink_trait.Ghosts K) (disk : disk_trait.Ghosts D)
     (sink_old : K) (disk_old : D) (how : Status) (sink_new : K) (disk_new : D) : Type 0 where
   pub checked : Checked sink disk how sink_old sink_new disk_old disk_new
   pub named : NamesDamage disk how disk_old
   pub wrote : OnlyWrites disk (IsMetadata (disk.size disk_old) (disk.story disk_old).reads) disk_old disk_new
+  pub survives : StoreSurvives disk disk_old disk_new
 
 -- What a form does. The source is read by `fresh` and `steps` alone.
 abbrev pub Did : {S K D : Type 0} → source_trait.Ghosts S → sink_trait.Ghosts K → disk_trait.Ghosts D → Form

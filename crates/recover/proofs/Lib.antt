@@ -1,4 +1,5 @@
 pub mod Turned
+pub mod Survivals
 pub mod Puttings
 pub mod Formatted
 pub mod Verifyings

@@ -1,20 +1,20 @@
 // The opening of a disk.
 
-ghost use Rattle.std.specs.Prelude.{◌≡◌, ℕ, ◌<◌, ◌≤◌, [], Err, IfErr, IfOk, IsTrue, OnOk};
+ghost use Rattle.std.specs.Prelude.{◌≡◌, ℕ, ◌-◌, ◌<◌, ◌≤◌, [], Err, IfErr, IfOk, IsTrue, MatchResult, OnOk};
 ghost use Rattle.blob_base.specs.declared.faults.StoreRefusal.{StoreRefusal as Why};
 ghost use Rattle.disk_model.specs.Disks.{OnlyReads, OnlyWrites};
 ghost use Rattle.recover.specs.Faults.{CameFrom, IsOfHalf, IsOfSpace, IsRead};
 ghost use Rattle.recover.specs.Frames.{IsSound};
-ghost use Rattle.recover.specs.Openings.{IsFound, IsMetadata, TookOpening, found_of};
-ghost use Rattle.recover.specs.Turns.{IsTurned};
+ghost use Rattle.recover.specs.Openings.{IsFound, IsMetadata, LeavesOpening, LeavesSince, TookOpening, found_of};
+ghost use Rattle.recover.specs.Turns.{IsTurned, ReadsThrough};
 ghost use Rattle.recover.specs.declared.fault.RecoverFault.TheVariants.{Refused};
 ghost use Rattle.relation.specs.Parts.{encoded_by};
 ghost use Rattle.store_model.specs.Cost as cost;
 ghost use Rattle.store_model.specs.Drops.{Drops};
-ghost use Rattle.store_model.specs.Half.{IsHalf};
+ghost use Rattle.store_model.specs.Half.{IsHalf, picked};
 ghost use Rattle.store_model.specs.HalfRefusals.{FindsHalf};
 ghost use Rattle.store_model.specs.Layout.{total_pages};
-ghost use Rattle.store_model.specs.Reading.{Opened, Reads, blocks_of_states};
+ghost use Rattle.store_model.specs.Reading.{Found as StoreFound, Opened, Reads, blocks_of_states};
 ghost use Rattle.store_model.specs.Space.{Apart};
 
 use crate::fault::{RecoverFault, of_half};
@@ -106,6 +106,14 @@ pub fn recover<D: Disk>(alloc: Global, disk: &mut D) -> Result<Found, RecoverFau
     // It cost the writes of a turn, and a sync before it.
     ensures calls { IsTrue D.tells → IfOk result (λ found.
         TookOpening (encoded_by found.relation.states) (D.calls disk.old) (D.calls disk.new)) }
+
+    // A store that the disk read as survives a crash at each moment from the return of its first sync on.
+    ensures survives { IsTrue D.tells → (found : StoreFound) → Reads (D.size disk.old) (D.story disk.old).reads (Opened found)
+        → MatchResult result
+        (λ _. LeavesSince D.Disk (ReadsThrough (D.size disk.old) found (1 - picked ((D.story disk.old).reads 0)) (D.story disk.old).reads)
+        disk.old disk.new)
+        (λ _. LeavesOpening D.Disk (ReadsThrough (D.size disk.old) found (1 - picked ((D.story disk.old).reads 0)) (D.story disk.old).reads)
+        disk.old disk.new) }
 
     // No page of the data area was written, and a crash leaves each as before.
     ensures wrote { OnlyWrites D.Disk (IsMetadata (D.size disk.old) (D.story disk.old).reads) disk.old disk.new }

@@ -5,7 +5,7 @@ ghost use Rattle.std.specs.FinMap.{FinMap, entries};
 ghost use Rattle.check_point.specs.Halves.{Stand};
 ghost use Rattle.check_point.specs.Writers.{HasTaken};
 ghost use Rattle.disk_model.specs.Disks.{Caused, OnlyWrites};
-ghost use Rattle.recover.specs.Turns.{IsTurnPage, IsTurned, found_by};
+ghost use Rattle.recover.specs.Turns.{InTurn, IsTurnPage, IsTurned, found_by};
 ghost use Rattle.relation.specs.Parts.{encoded_by};
 ghost use Rattle.store_model.specs.Disk.{Took, page_bytes};
 ghost use Rattle.store_model.specs.Half.{IsHalf, tuples_spelling};
@@ -60,6 +60,9 @@ pub(crate) fn turn_to<D: Disk>(disk: &mut D, writer: HalfWriter, half: u32) -> R
         → Apart (blocks_of_states states)
         → OnOk result (Reads (D.size disk.old) (D.story disk.new).reads (Opened (found_by writer.layout writer.last states))) }
     ensures turned { IsTrue D.tells → OnOk result (IsTurned (D.story disk.new) writer.half) }
+    ensures windows { (states : FinMap key_order State) → IsHalf writer.layout writer.last states → HasTaken writer (entries states)
+        → (IsTrue D.tells → Stand (states_page writer.layout writer.half) (writer.taken / page_bytes) (tuples_spelling states) (D.story disk.old).reads)
+        → InTurn D.Disk writer.layout writer.half writer.last states disk.old disk.new }
     ensures wrote { OnlyWrites D.Disk (IsTurnPage writer.layout writer.half) disk.old disk.new }
     ensures calls { IsTrue D.tells → OnOk result
         (Took 0 (body_pages writer.taken - writer.taken / page_bytes + 3) 2 (D.calls disk.old) (D.calls disk.new)) }
@@ -86,6 +89,9 @@ pub fn turn<D: Disk>(
     ensures reads { IsTrue D.tells → Apart (blocks_of_states relation.now.states)
         → OnOk result (Reads (D.size disk.old) (D.story disk.new).reads (Opened (found_by layout last relation.now.states))) }
     ensures turned { IsTrue D.tells → OnOk result (IsTurned (D.story disk.new) half) }
+
+    // The half's pages are written first, and the selector behind a sync, where the half holds the states.
+    ensures windows { InTurn D.Disk layout half last relation.now.states disk.old disk.new }
 
     // No other page has changed, and a crash leaves each other page as before.
     ensures wrote { OnlyWrites D.Disk (IsTurnPage layout half) disk.old disk.new }

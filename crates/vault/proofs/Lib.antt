@@ -34,4 +34,5 @@ pub mod Ledgers
 pub mod Sizes
 pub mod Costings
 pub mod Readings
+pub mod Crashes
 pub mod Keepings

@@ -26,7 +26,7 @@ states-before layout (suc zero) p two to past = omega (arith, to, past)
 states-before layout (suc (suc n)) p two to past = omega (arith, two)
 
 -- nor is one of a turn
-turn-before : (layout : Layout) (half p : ℕ) → half ≤ 1 → data_page layout ≤ p → IsTurnPage layout half p → ⊥
+pub turn-before : (layout : Layout) (half p : ℕ) → half ≤ 1 → data_page layout ≤ p → IsTurnPage layout half p → ⊥
 turn-before layout half p two past (inr is) = omega (arith, is, past)
 turn-before layout half p two past (inl (inl inside)) = states-before layout half p two inside.to past
 turn-before layout half p two past (inl (inr (inl header))) = omega (arith, header, past, two)
@@ -79,7 +79,7 @@ pour_page-within layout (pour ∷ pours) p within (inr behind) =
     record { at = one.at; is = one.is; within = one.within; owned = omega (arith, one.owned, owners-append mine (pour_blocks pours) one.at) }
 
 -- a page before the data area, or one of it that these blocks own
-turn-page : (layout : Layout) (taken : List Block) (half p : ℕ) → half ≤ 1 → IsTurnPage layout half p → IsLeadPage layout taken p
+pub turn-page : (layout : Layout) (taken : List Block) (half p : ℕ) → half ≤ 1 → IsTurnPage layout half p → IsLeadPage layout taken p
 turn-page layout taken half p two page = elim (cases_lt p (data_page layout)) [
   | inl before ↦ inl before
   | inr past ↦ absurd (turn-before layout half p two past page)

@@ -6,7 +6,7 @@ ghost use Rattle.std.specs.List.Sorted.{IsPermutation};
 ghost use Rattle.disk_model.specs.Disks.{Caused, OnlyWrites};
 ghost use Rattle.frame_codec.specs.Values.{model_entries};
 ghost use Rattle.recover.specs.Openings.{IsFound};
-ghost use Rattle.recover.specs.Turns.{IsTurnPage};
+ghost use Rattle.recover.specs.Turns.{InTurn, IsTurnPage};
 ghost use Rattle.relation.specs.Changes.{with_entries};
 ghost use Rattle.relation.specs.Parts.{encoded_by, owned_by};
 ghost use Rattle.store_model.specs.Disk.{Took, page_bytes};
@@ -98,6 +98,8 @@ impl Memory {
         ensures sound { IsSound self.new }
         ensures same { SameHeld self.old self.new }
         ensures err { OnErr result (self.new ≡ self.old) }
+
+        ensures windows { InTurn D.Disk self.old.layout (1 - self.old.log.half) self.old.last self.old.relation.states disk.old disk.new }
 
         // No other page has changed, and a crash leaves each other page as before.
         ensures wrote { OnlyWrites D.Disk (IsTurnPage self.old.layout (1 - self.old.log.half)) disk.old disk.new }

@@ -1,6 +1,6 @@
 // The vault: a store on a disk, and what it has of it in memory.
 
-ghost use Rattle.std.specs.Prelude.{◌≡◌, ℕ, ◌+◌, ◌-◌, ◌*◌, ◌≤◌, ◌⊎◌, [], ◌∷◌, ◌++◌, Err, IfErr, IfOk, IsErrOf, IsTrue, None, OnErr, OnOk, Some, drop, length, map as each, option_copied, zip};
+ghost use Rattle.std.specs.Prelude.{◌≡◌, ℕ, ◌+◌, ◌-◌, ◌*◌, ◌≤◌, ◌⊎◌, [], ◌∷◌, ◌++◌, Err, IfErr, IfOk, IsErrOf, IsTrue, MatchResult, None, OnErr, OnOk, Some, drop, length, map as each, option_copied, zip};
 ghost use Rattle.std.specs.List.{All, sum_by};
 ghost use Rattle.std.specs.FinMap as map;
 ghost use Rattle.blob_base.specs.declared.faults.StoreRefusal.{StoreRefusal as Why};
@@ -8,7 +8,7 @@ ghost use Rattle.disk_model.specs.Disks.{Keeps, OnlyReads, OnlyWrites};
 ghost use Rattle.frame_codec.specs.Values.{model_entries};
 ghost use Rattle.group_plan.specs.Plans.{committed, members_of};
 ghost use Rattle.recover.specs.Faults.{CameFrom, IsRead};
-ghost use Rattle.recover.specs.Openings.{IsFound, IsMetadata};
+ghost use Rattle.recover.specs.Openings.{IsFound, IsMetadata, LeavesOpening, LeavesSince};
 ghost use Rattle.recover.specs.Turns.{IsTurnPage};
 ghost use Rattle.recover.specs.declared.fault.RecoverFault.TheVariants.{Refused};
 ghost use Rattle.relation.specs.Changes.{with_entries};
@@ -16,7 +16,7 @@ ghost use Rattle.relation.specs.Parts.{encoded_by};
 ghost use Rattle.store_model.specs.Cost.{Cost, with_opening, with_turn};
 ghost use Rattle.store_model.specs.Disk.{Took};
 ghost use Rattle.store_model.specs.Frame.{body_bytes, body_spelling};
-ghost use Rattle.store_model.specs.Images.{Settled};
+ghost use Rattle.store_model.specs.Images.{LeavesOnly, Settled};
 ghost use Rattle.store_model.specs.Layout.{Layout, data_pages};
 ghost use Rattle.store_model.specs.Log.{body_pages};
 ghost use Rattle.store_model.specs.Reading.{Opened, Reads};
@@ -87,6 +87,12 @@ impl<D: Disk> Vault<D> {
         // A store that the disk read as is the one in memory, and its contents are on the disk.
         ensures stands { IsTrue D.tells → (layout : Layout) (store : ModelStore) → ReadsAs (D.size disk) (D.story disk).reads layout store.objects store.last
             → IfOk result (λ vault. IsOpenedAs D.Disk layout store vault.disk vault.memory) }
+
+        // And it is the store that a crash leaves at any moment from the return of the first sync on.
+        ensures survives { IsTrue D.tells → (layout : Layout) (store : ModelStore) → ReadsAs (D.size disk) (D.story disk).reads layout store.objects store.last
+            → MatchResult result
+            (λ vault. LeavesSince D.Disk (λ image. ReadsAs (D.size disk) image layout store.objects store.last) disk vault.disk)
+            (λ failed. LeavesOpening D.Disk (λ image. ReadsAs (D.size disk) image layout store.objects store.last) disk failed.disk) }
 
         // No page of the data area was written, and a crash leaves each as before.
         ensures wrote { IfOk result (λ vault. OnlyWrites D.Disk (IsMetadata (D.size disk) (D.story disk).reads) disk vault.disk) }
@@ -185,6 +191,12 @@ impl<D: Disk> Vault<D> {
 
         // No page but those of the other half has changed, and the selector; and a crash leaves each other page as before.
         ensures wrote { OnlyWrites D.Disk (IsTurnPage self.old.memory.layout (1 - self.old.memory.log.half)) self.old.disk self.new.disk }
+
+        // Whether it ends well or not, a crash at any moment of it leaves the store that it had.
+        ensures survives { IsTrue D.tells → self.old.shut ≡ None → (store : ModelStore) → StoreStands self.old.memory store
+            → AllHeld (D.story self.old.disk).reads self.old.memory.layout store.objects
+            → LeavesOnly (λ image. ReadsAs (D.size self.old.disk) image self.old.memory.layout store.objects store.last)
+            (D.story self.old.disk) (D.story self.new.disk) }
 
         // A vault that was shut stays so, and writes nothing.
         ensures closed { (cause : Cause) → self.old.shut ≡ Some cause → (result ≡ Err (Shut cause)) × (self.new ≡ self.old) }

@@ -1,4 +1,7 @@
+use Rattle.std.proofs.Common.{inl}
 use Rattle.disk_model.proofs.DiskLaws.{OnlyWrites-reads}
+use Rattle.recover.proofs.Survivals.{LeavesSince-read}
+use Rattle.store_model.specs.Survival.{ReadsAs}
 use Rattle.recover.specs.Openings.{IsMetadata}
 use Rattle.vault.specs.Vaults.{found_of}
 use Rattle.blob_report.proofs.Checks.{Checked-broken, Checked-whole, NamesDamage-by}
@@ -37,3 +40,15 @@ returns-in-Err-check-clause-wrote g c =
     rw c.close-in-Err-check.ensures.disk
     (OnlyWrites-reads g.D.Disk (IsMetadata (g.D.Disk.size c.args.disk) (g.D.Disk.story c.args.disk).reads) c.args.disk c.in-Ok.vault.disk c.check.new.vault.disk
     c.in-Ok.ensures.wrote c.in-Err-check.ensures.err.only)
+
+pub returns-in-Ok-check-clause-survives : goal.returns-in-Ok-check-clause-survives
+returns-in-Ok-check-clause-survives g c tells layout store told =
+    rw c.close.ensures.disk
+    (inl (LeavesSince-read g.D.Disk (λ image. ReadsAs (g.D.Disk.size c.args.disk) image layout store.objects store.last) c.args.disk c.in-Ok.vault.disk c.check.new.vault.disk tells
+    (c.in-Ok.ensures.survives tells layout store told) c.in-Ok-check.ensures.ok.only))
+
+pub returns-in-Err-check-clause-survives : goal.returns-in-Err-check-clause-survives
+returns-in-Err-check-clause-survives g c tells layout store told =
+    rw c.close-in-Err-check.ensures.disk
+    (inl (LeavesSince-read g.D.Disk (λ image. ReadsAs (g.D.Disk.size c.args.disk) image layout store.objects store.last) c.args.disk c.in-Ok.vault.disk c.check.new.vault.disk tells
+    (c.in-Ok.ensures.survives tells layout store told) c.in-Err-check.ensures.err.only))

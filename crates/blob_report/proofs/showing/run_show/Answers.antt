@@ -1,6 +1,7 @@
-use Rattle.std.proofs.Common.{refl, inr}
+use Rattle.std.proofs.Common.{refl, inl, inr}
 use Rattle.recover.specs.Openings.{found_of}
 use Rattle.store_model.specs.Report.{show_text}
+use Rattle.vault.proofs.Crashes.{Opening-survives, Since-survives}
 use Rattle.blob_report.proofs.Showings.{show-broken}
 use Rattle.blob_report.proofs.showing.run_show.Goals as goal
 
@@ -28,3 +29,15 @@ returns-clause-showed g c =
       is = λ tells. refl;
       took = c.in-Err-show.ensures.err.front;
     }))
+
+pub returns-in-Err-clause-survives : goal.returns-in-Err-clause-survives
+returns-in-Err-clause-survives g c tells layout store told =
+    Opening-survives g.D.Disk c.args.disk.now c.recover.new.disk layout store told (c.in-Err.ensures.survives tells told.found told.reads)
+
+pub returns-in-Ok-show-clause-survives : goal.returns-in-Ok-show-clause-survives
+returns-in-Ok-show-clause-survives g c tells layout store told =
+    inl (Since-survives g.D.Disk c.args.disk.now c.recover.new.disk layout store told (c.in-Ok.ensures.survives tells told.found told.reads))
+
+pub returns-clause-survives : goal.returns-clause-survives
+returns-clause-survives g c tells layout store told =
+    inl (Since-survives g.D.Disk c.args.disk.now c.recover.new.disk layout store told (c.in-Ok.ensures.survives tells told.found told.reads))

@@ -1,4 +1,4 @@
-use Rattle.std.proofs.Common.{◌≡◌, ℕ, sym, ap, ◌∙◌, subst, arith}
+use Rattle.std.proofs.Common.{◌≡◌, ℕ, inl, sym, ap, ◌∙◌, subst, arith}
 use Rattle.meta_log.specs.Logs.{Parts}
 use Rattle.recover.specs.Openings.{TookOpening, found_of as opened_of}
 use Rattle.relation.specs.Parts.{Parts as RelationParts, encoded_by}
@@ -10,6 +10,7 @@ use Rattle.vault.proofs.Costings.{Costs-opened}
 use Rattle.vault.proofs.Gates.{IsAtRest-turned}
 use Rattle.vault.proofs.Ledgers.{bytes-alike}
 use Rattle.vault.proofs.Readings.{IsOpenedAs-read}
+use Rattle.vault.proofs.Crashes.{Opening-survives, Since-survives}
 use Rattle.vault.proofs.vault.Vault.open.Goals as goal
 
 pub returns-in-Ok-begin-clause-found : goal.returns-in-Ok-begin-clause-found
@@ -58,3 +59,15 @@ returns-in-Ok-begin-clause-costs g c store cost stands =
     Costs-opened disk c.args.disk c.recover.new.disk mine store cost (encoded_by mine.relation.states) (bytes-alike mine.relation.states store.objects stands.objects)
     (ap (λ (log : Parts). log.gate) (made.log ∙ c.in-Ok.ensures.sound.log))
     (λ tells. subst (λ (r : RelationParts). TookOpening (encoded_by r.states) (disk.calls c.args.disk) (disk.calls c.recover.new.disk)) (sym made.relation) (c.in-Ok.ensures.calls tells))
+
+pub returns-in-Ok-begin-clause-survives : goal.returns-in-Ok-begin-clause-survives
+returns-in-Ok-begin-clause-survives g c tells layout store told =
+    Since-survives g.D.Disk c.args.disk c.recover.new.disk layout store told (c.in-Ok.ensures.survives tells told.found told.reads)
+
+pub returns-in-Err-begin-clause-survives : goal.returns-in-Err-begin-clause-survives
+returns-in-Err-begin-clause-survives g c tells layout store told =
+    inl (Since-survives g.D.Disk c.args.disk c.recover.new.disk layout store told (c.in-Ok.ensures.survives tells told.found told.reads))
+
+pub returns-in-Err-clause-survives : goal.returns-in-Err-clause-survives
+returns-in-Err-clause-survives g c tells layout store told =
+    Opening-survives g.D.Disk c.args.disk c.recover.new.disk layout store told (c.in-Err.ensures.survives tells told.found told.reads)
