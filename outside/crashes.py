@@ -5,12 +5,15 @@
 Each run of N random scripts goes under `strace`, which tells its writes and syncs. At each moment of
 its disk images are built of what a crash may leave: of each page that was written since the last
 sync nothing, all, a part, or other bytes. The program shows and checks each image, and reads the
-contents of some. `--plant` changes the calls that were told, as a faulty program would make them.
+contents of some. Of each run some images are opened under `strace` too, and the opening is crashed at
+each of its own moments: what that leaves must read as the image did. `--plant` changes the calls that
+were told, as a faulty program would make them.
 """
 
 import os
 import random
 import shutil
+import subprocess
 import sys
 import tempfile
 from collections import Counter
@@ -37,12 +40,14 @@ FEW_PAGES = 4  # so many have all their choices of whole pages
 ODD_CHOICES = 2  # with torn pages and other bytes, at each moment
 RANDOM_CHOICES = 6  # at each moment of more pages
 MOST_MOMENTS = 30  # of one run; of a longer run so many are chosen at random
+OPENINGS = 3  # of one run are crashed themselves
 READS = 20  # the contents of one image of so many are read
 MANY = 50  # scripts, which must show every kind
 REQUIRED = (
     "moment: format", "moment: opening", "moment: turn", "moment: body", "moment: contents", "moment: gate",
     "moment: answered", "read: format, no store", "read: format, empty store", "read: nothing under way",
     "read: the state before the group", "read: the whole group", "read: a part of the group",
+    "opening crashed",
 )
 
 
@@ -194,6 +199,16 @@ class Disk:
             self.have[page] = None
         return status, os.pread(self.out, os.fstat(self.out).st_size, 0)
 
+    def traced_show(self, opening: set) -> list:
+        """The writes and syncs of a show."""
+        trace = self.path.parent.parent / "trace"
+        trace.write_text("")
+        words = [*calls.command(self.program.encode(), self.path.parent), b"show", str(self.path).encode()]
+        subprocess.run(words, stdin=subprocess.DEVNULL, stdout=subprocess.DEVNULL, stderr=subprocess.DEVNULL)
+        for page in opening:
+            self.have[page] = None
+        return calls.calls_of(trace.read_text())
+
 
 # The judgement --------------------------------------------------------------------------------
 
@@ -278,6 +293,7 @@ class Crashes:
             synced, pending = dict(before.pages), {}
             every = range(len(events) + 1)
             chosen = set(every if len(every) <= MOST_MOMENTS else r.sample(every, MOST_MOMENTS))
+            crashed = set(r.sample(sorted(chosen), min(OPENINGS, len(chosen))))
             for moment in every:
                 if moment and events[moment - 1].call is SYNC:
                     synced, pending = synced | pending, {}
@@ -285,7 +301,8 @@ class Crashes:
                     pending[events[moment - 1].call.page] = events[moment - 1].call.held
                 if moment in chosen:
                     place, whole = f"{name}, moment {moment}", moment - 1 not in chosen
-                    self.moment(r, place, work, opening, before, (synced, pending), ran, events, moment, formats, whole)
+                    again = moment in crashed
+                    self.moment(r, place, work, opening, before, (synced, pending), ran, events, moment, formats, whole, again)
             work.hold(before)
             difference = image_difference(self.folder, before)
             if difference:
@@ -312,7 +329,8 @@ class Crashes:
         finally:
             shutil.rmtree(self.folder)
 
-    def moment(self, r, name, work, opening, before, pages, ran, events, moment: int, formats: bool, whole: bool) -> None:
+    def moment(self, r, name, work, opening, before, pages, ran, events, moment: int, formats: bool, whole: bool,
+               again: bool) -> None:
         self.moments += 1
         synced, pending = pages
         last = events[moment - 1] if moment else None
@@ -320,9 +338,13 @@ class Crashes:
         newest = last.call.page if last and last.call is not SYNC and not whole else None
         in_format = formats and (moment == 0 or last.part == "format" and any(
             one.part == "format" for one in events[moment:]))
-        for number, picks in enumerate(choices(r, synced, pending, newest)):
+        found = choices(r, synced, pending, newest)
+        crashed = r.randrange(len(found)) if again and not in_format else None
+        for number, picks in enumerate(found):
             image = disk.Image(before.count, synced | picks, before.rest)
             faults = self.judge(r, work, opening, image, ran, events, moment, in_format)
+            if number == crashed and not faults:
+                faults = self.crash_opening(r, work, opening, image)
             if faults:
                 pages = {page: "new" if picks.get(page) == new else "odd" if page in picks else "old"
                          for page, new in pending.items()}
@@ -353,6 +375,30 @@ class Crashes:
             return f"check: {status} {checked[:200]!r}"
         if states and r.randrange(READS) == 0:
             return self.read(work, opening, image, states)
+        return ""
+
+    def crash_opening(self, r, work, opening, image) -> str:
+        """The opening of an image, crashed at each of its moments: what is left reads as the image did."""
+        wanted = lasting.run(lasting_cases.SHOW, b"", image)
+        work.hold(image)
+        found = work.traced_show(opening)
+        difference = calls.calls_difference(found, wanted.calls)
+        if difference:
+            return f"its opening differs: {difference}"
+        self.counts["opening crashed"] += 1
+        synced, pending = dict(image.pages), {}
+        for moment in range(len(found) + 1):
+            last = found[moment - 1] if moment else SYNC
+            if last is SYNC:
+                synced, pending = synced | pending, {}
+            else:
+                pending[last.page] = last.held
+            for picks in choices(r, synced, pending, None if last is SYNC else last.page):
+                work.hold(disk.Image(image.count, synced | picks, image.rest))
+                status, shown = work.run("show", opening)
+                self.counts["opening crashed: images"] += 1
+                if (status, shown) != (wanted.status, wanted.text):
+                    return f"crashed at moment {moment} of its opening: {status} {shown[:200]!r}"
         return ""
 
     def read(self, work, opening, image, states: dict) -> str:
