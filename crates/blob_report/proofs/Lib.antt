@@ -3,3 +3,4 @@ mod Showings
 mod Damages
 mod Checkings
 mod Checks
+mod Openings

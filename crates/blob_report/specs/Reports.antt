@@ -11,9 +11,10 @@ use Rattle.blob_script.specs.declared.status.Status.TheVariants as status
 use Rattle.disk_model.specs.Disks.{OnlyReads}
 use Rattle.disk_model.specs.declared.disk.Disk as disk_trait
 use Rattle.io_ends.specs.declared.traits.Sink as sink_trait
-use Rattle.recover.specs.Openings.{LeavesOpening}
+use Rattle.recover.specs.Openings.{BeginsAt, LeavesFrom, TookOpening}
 use Rattle.recover.specs.declared.fault.RecoverFault.{RecoverFault}
 use Rattle.recover.specs.declared.fault.RecoverFault.TheVariants as fault
+use Rattle.relation.specs.Parts.{encoded_by}
 use Rattle.store_model.specs.Disk.{Image}
 use Rattle.store_model.specs.Layout.{Layout}
 use Rattle.store_model.specs.Reading.{Found, Opened, Reads, Refused}
@@ -21,19 +22,34 @@ use Rattle.store_model.specs.Report.{Damage, HasDamages, check_text, damage_line
 use Rattle.store_model.specs.State.{State}
 use Rattle.store_model.specs.Store.{Store}
 use Rattle.store_model.specs.Survival.{ReadsAs}
-use Rattle.store_model.specs.Verify.{kept}
+use Rattle.store_model.specs.Verify.{IsDamage}
 
--- A store with all its contents that the disk read as is what a crash leaves, at any moment from the return of the first sync on.
+-- A store with all its contents that the disk read as is what a crash leaves, at any moment from the return of the first sync on, and where
+-- nothing was pending, from the start on; or that sync didn't return well, and nothing was written.
 abbrev pub StoreSurvives : {D : Type 0} → disk_trait.Ghosts D → D → D → Type 0
 StoreSurvives g old new =
-    IsTrue g.tells → (layout : Layout) (store : Store) → ReadsAs (g.size old) (g.story old).reads layout store.objects store.last
-    → LeavesOpening g (λ image. ReadsAs (g.size old) image layout store.objects store.last) old new
+    IsTrue g.tells → (layout : Layout) (store : Store) (since : ℕ) → BeginsAt g old since
+    → ReadsAs (g.size old) (g.story old).reads layout store.objects store.last
+    → LeavesFrom g (λ image. ReadsAs (g.size old) image layout store.objects store.last) since new
+    ⊎ (OnlyReads g old new × ((g.story new).time ≤ since))
+
+-- An opening was all that a disk wrote and synced: a sync, and a turn with the states of the store that it read as.
+abbrev pub CostsOpening : {D : Type 0} → disk_trait.Ghosts D → D → D → Type 0
+CostsOpening g old new =
+    IsTrue g.tells → (found : Found) → Reads (g.size old) (g.story old).reads (Opened found)
+    → TookOpening (encoded_by found.states) (g.calls old) (g.calls new)
 
 -- the status of a disk that wasn't opened, or wasn't formatted
 abbrev pub opening_ending : RecoverFault → Status
 opening_ending (fault.Refused why) = status.Refused why
 opening_ending fault.Failed = status.DiskFault
 opening_ending fault.OutOfMemory = status.OutOfMemory
+
+-- a status with which a whole report was printed
+abbrev pub HasReported : Status → Type 0
+HasReported status.Done = ⊤
+HasReported (status.Damaged key link want got) = ⊤
+HasReported _ = ⊥
 
 -- a status of a run that wasn't turned away, and isn't one of damage
 abbrev pub IsAtWork : Status → Type 0
@@ -118,11 +134,9 @@ Checked sink g status.DiskFault sink_old sink_new old new = BrokenOff sink g IsC
 Checked sink g status.OutOfMemory sink_old sink_new old new = BrokenOff sink g IsChecked sink_old sink_new old
 Checked sink g _ sink_old sink_new old new = ⊥
 
--- a damage is that of a link of this state: the value that the state keeps of it, and another one
-pub record IsOfLink (state : State) (one : Damage) : Type 0 where
-  pub exists : one.link ≤ length state.extents
-  pub want_is : one.want ≡ kept state one.link
-  pub differ : one.want ≢ one.got
+-- a damage is that of this state: its link is the first that fails over some content of the state's size
+abbrev pub IsOfLink : State → Damage → Type 0
+IsOfLink state one = IsDamage state one.link one.want one.got
 
 -- it is that of a state of the key, of the store that a disk reads as
 pub record IsOfStore {D : Type 0} (g : disk_trait.Ghosts D) (one : Damage) (old : D) : Type 0 where

@@ -1,15 +1,16 @@
 // The check of a store.
 
-ghost use Rattle.std.specs.Prelude.{◌≡◌, ℕ, ◌+◌, ◌-◌, ◌^◌, ◌<◌, List, [], ◌∷◌, ◌++◌, IfErr, IfOk, None, OnOk, Some};
+ghost use Rattle.std.specs.Prelude.{◌≡◌, ℕ, ◌+◌, ◌-◌, ◌^◌, ◌<◌, List, [], ◌∷◌, ◌++◌, IfErr, IfOk, IsTrue, None, OnOk, Some};
 ghost use Rattle.std.specs.FinMap.{entries, get};
 ghost use Rattle.blob_base.specs.Faults.{KeepsEnd};
 ghost use Rattle.disk_model.specs.Disks.{OnlyWrites};
 ghost use Rattle.recover.specs.Openings.{IsMetadata};
+ghost use Rattle.store_model.specs.Cost.{Reads as OnlyTakesReads};
 ghost use Rattle.store_model.specs.Report.{Damage, check_text};
 ghost use Rattle.store_model.specs.State.{State};
-ghost use Rattle.vault.specs.Vaults.{IsVault, found_of};
+ghost use Rattle.vault.specs.Vaults.{found_of};
 ghost use Rattle.blob_report.specs.Ends.{IsCaused};
-ghost use Rattle.blob_report.specs.Reports.{Checked as DidCheckStore, NamesDamage, StoreSurvives, damages_text, verdict_of};
+ghost use Rattle.blob_report.specs.Reports.{Checked as DidCheckStore, CostsOpening, HasReported, NamesDamage, StoreSurvives, damages_text, verdict_of};
 ghost use Rattle.blob_report.specs.Checks.{AddsTo, BrokeCheck, DidCheck, HasCounted, WasChecked};
 
 use crate::printing::print;
@@ -60,7 +61,6 @@ fn check_one<K: Sink, D: Disk>(
     key: Key,
     checked: &mut Checked,
 ) -> Result<(), Status>
-    requires vault { IsVault D.Disk vault.old.disk vault.old.memory vault.old.shut }
     requires open { vault.old.shut ≡ None }
     requires there { (state : State) × (get vault.old.memory.relation.states key ≡ Some state) }
     requires few { checked.old.damaged < 2 ^ 64 - 1 }
@@ -71,9 +71,9 @@ fn check_one<K: Sink, D: Disk>(
         → IfErr result (λ status.
         BrokeCheck K.Sink D.Disk damages_text vault.old.memory.layout ((key, state) ∷ []) status sink.old sink.new
         vault.old.disk vault.new.disk) }
-    ensures keeps { IsVault D.Disk vault.new.disk vault.new.memory vault.new.shut }
     ensures memory { vault.new.memory ≡ vault.old.memory }
     ensures shut { vault.new.shut ≡ vault.old.shut }
+    ensures still { IsTrue D.tells → OnlyTakesReads (D.calls vault.old.disk) (D.calls vault.new.disk) }
 {
     match vault.verify(&key) {
         Ok(Verdict::Whole) => Ok(()),
@@ -94,7 +94,6 @@ fn check_one<K: Sink, D: Disk>(
 
 // Verifies the content of each key, in the order of the keys.
 fn check_states<K: Sink, D: Disk>(sink: &mut K, vault: &mut Vault<D>) -> Result<Checked, Status>
-    requires vault { IsVault D.Disk vault.old.disk vault.old.memory vault.old.shut }
     requires open { vault.old.shut ≡ None }
     ensures ok { IfOk result (λ checked.
         DidCheck K.Sink D.Disk vault.old.memory.layout (entries vault.old.memory.relation.states) (HasCounted checked)
@@ -102,8 +101,8 @@ fn check_states<K: Sink, D: Disk>(sink: &mut K, vault: &mut Vault<D>) -> Result<
     ensures err { IfErr result (λ status.
         BrokeCheck K.Sink D.Disk damages_text vault.old.memory.layout (entries vault.old.memory.relation.states) status
         sink.old sink.new vault.old.disk vault.new.disk) }
-    ensures keeps { IsVault D.Disk vault.new.disk vault.new.memory vault.new.shut }
     ensures memory { vault.new.memory ≡ vault.old.memory }
+    ensures still { IsTrue D.tells → OnlyTakesReads (D.calls vault.old.disk) (D.calls vault.new.disk) }
 {
     let mut checked = Checked::new();
     'checked: for i in 0..vault.relation().len() {
@@ -117,14 +116,13 @@ fn check_states<K: Sink, D: Disk>(sink: &mut K, vault: &mut Vault<D>) -> Result<
 // Verifies the content of each key, and prints how many there are. It answers the first damage, and `Done` where there is
 // none.
 fn check<K: Sink, D: Disk>(sink: &mut K, vault: &mut Vault<D>) -> Result<Status, Status>
-    requires vault { IsVault D.Disk vault.old.disk vault.old.memory vault.old.shut }
     requires open { vault.old.shut ≡ None }
     ensures ok { IfOk result (λ verdict.
         WasChecked K.Sink D.Disk (found_of vault.old.memory) verdict sink.old sink.new vault.old.disk vault.new.disk) }
     ensures err { IfErr result (λ status.
         BrokeCheck K.Sink D.Disk (check_text (found_of vault.old.memory)) vault.old.memory.layout
         (entries vault.old.memory.relation.states) status sink.old sink.new vault.old.disk vault.new.disk) }
-    ensures keeps { IsVault D.Disk vault.new.disk vault.new.memory vault.new.shut }
+    ensures still { IsTrue D.tells → OnlyTakesReads (D.calls vault.old.disk) (D.calls vault.new.disk) }
 {
     let checked = check_states(sink, vault)?;
     let states = vault.relation().len() as u64;
@@ -143,8 +141,12 @@ pub fn run_check<K: Sink, D: Disk>(alloc: Global, sink: &mut K, disk: D) -> (Sta
     // No page of the data area was written, and a crash leaves each as before.
     ensures wrote { OnlyWrites D.Disk (IsMetadata (D.size disk) (D.story disk).reads) disk result.1 }
 
-    // And the store that there was survives a crash at any moment from the return of the first sync on.
+    // And the store that there was survives a crash at any moment from the return of the first sync on, and where nothing was pending,
+    // from the call on.
     ensures survives { StoreSurvives D.Disk disk result.1 }
+
+    // A report that was printed cost an opening, but for reads.
+    ensures costs { HasReported result.0 → CostsOpening D.Disk disk result.1 }
     ensures caused { IsCaused result.0 (K.faults sink.old) (K.faults sink.new) (D.faults disk) (D.faults result.1) }
     ensures keeps { KeepsEnd K.faults K.frugal sink.old sink.new }
 {
@@ -152,6 +154,7 @@ pub fn run_check<K: Sink, D: Disk>(alloc: Global, sink: &mut K, disk: D) -> (Sta
         Ok(vault) => vault,
         Err(failed) => return (opening_status(failed.fault), failed.disk),
     };
+    vault.rules();
     match check(sink, &mut vault) {
         Ok(verdict) => (verdict, vault.close()),
         Err(status) => (status, vault.close()),

@@ -28,6 +28,7 @@ pub fn run_format<K: Sink, D: Disk>(layout: Layout, sink: &mut K, disk: &mut D) 
     ensures untouched { D.size disk.old < total_pages layout → (sink.new ≡ sink.old) × (disk.new ≡ disk.old) }
     ensures accepted { total_pages layout ≤ D.size disk.old → IsAtWork result }
     ensures front { TookFront (K.taken sink.old) (K.taken sink.new) (format_text layout) }
+    ensures unsaid { result ≡ Status.DiskFault → sink.new ≡ sink.old }
     ensures printed { result ≡ Status.Done → Appends (K.taken sink.old) (K.taken sink.new) (format_text layout) }
     ensures reads { IsTrue D.tells → result ≡ Status.Done
         → Reads (D.size disk.old) (D.story disk.new).reads (Opened (found_by layout 0 empty)) }

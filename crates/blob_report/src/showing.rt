@@ -7,7 +7,7 @@ ghost use Rattle.disk_model.specs.Disks.{OnlyWrites};
 ghost use Rattle.recover.specs.Openings.{IsMetadata, found_of};
 ghost use Rattle.store_model.specs.Report.{show_text};
 ghost use Rattle.blob_report.specs.Ends.{BrokeOff, HasPrinted, IsCaused};
-ghost use Rattle.blob_report.specs.Reports.{Showed, StoreSurvives, states_text};
+ghost use Rattle.blob_report.specs.Reports.{CostsOpening, HasReported, Showed, StoreSurvives, states_text};
 
 use crate::printing::print;
 use crate::status::opening_status;
@@ -47,8 +47,12 @@ pub fn run_show<K: Sink, D: Disk>(alloc: Global, sink: &mut K, disk: &mut D) -> 
     // No page of the data area was written, and a crash leaves each as before.
     ensures wrote { OnlyWrites D.Disk (IsMetadata (D.size disk.old) (D.story disk.old).reads) disk.old disk.new }
 
-    // And the store that there was survives a crash at any moment from the return of the first sync on.
+    // And the store that there was survives a crash at any moment from the return of the first sync on, and where nothing was pending,
+    // from the call on.
     ensures survives { StoreSurvives D.Disk disk.old disk.new }
+
+    // A report that was printed cost an opening.
+    ensures costs { HasReported result → CostsOpening D.Disk disk.old disk.new }
     ensures caused { IsCaused result (K.faults sink.old) (K.faults sink.new) (D.faults disk.old) (D.faults disk.new) }
     ensures keeps { KeepsEnd K.faults K.frugal sink.old sink.new }
 {

@@ -110,3 +110,9 @@ Stepped-err {T = T} {U = U} g mine later one other fault one_is other_is stepped
       damage = failed.damage;
       whole = failed.whole;
     })
+
+-- Where the vault is as it was, no page was written.
+pub only-same : {D : Type 0} (g : Ghosts D) (mine later new : World D) → later.vault ≡ mine.vault → new ≡ later → OnlyReads g mine.vault.disk new.vault.disk
+only-same {D = D} g mine later new same new_is =
+    subst (λ (w : World D). OnlyReads g mine.vault.disk w.vault.disk) (sym new_is)
+    (subst (λ (v : Vault D). OnlyReads g mine.vault.disk v.disk) (sym same) (OnlyReads-none g mine.vault.disk))

@@ -1,5 +1,5 @@
 -- A lead, over the program's world.
-use Rattle.std.proofs.Common.{◌≡◌, ◌≢◌, ℕ, zero, suc, ◌+◌, ◌==◌, ◌<◌, ◌≤◌, Bool, true, false, cond, ◌||◌, ◌⊎◌, List, [], ◌∷◌, ◌++◌, length, map, take, drop, fold, Some, None, inl, inr, refl, sym, ◌∙◌, ap, subst, arith}
+use Rattle.std.proofs.Common.{◌≡◌, ◌≢◌, ℕ, zero, suc, ◌+◌, ◌==◌, ◌<◌, ◌≤◌, Bool, true, false, cond, ◌||◌, ◌⊎◌, IsTrue, List, [], ◌∷◌, ◌++◌, length, map, take, drop, fold, Some, None, inl, inr, refl, sym, ◌∙◌, ap, subst, arith}
 use Rattle.std.specs.Prelude.{slice_get, slice_index_or}
 use Rattle.std.specs.FinMap.{FinMap}
 use Rattle.std.specs.List.{All, AllPairs, list_any}
@@ -18,26 +18,30 @@ use Rattle.store_model.specs.Answer as answer
 use Rattle.store_model.specs.Answer.{answer_text}
 use Rattle.store_model.specs.Cost.{with_lead}
 use Rattle.store_model.specs.Group.{Commit, Member, Reply, commits_of, member_of, no_tally, reply_of, taken_blocks}
-use Rattle.store_model.specs.Images.{Wrote}
+use Rattle.store_model.specs.Images.{LeavesOnly, Wrote}
 use Rattle.store_model.specs.Judgement.{Ledger}
 use Rattle.store_model.specs.Key.{key_order}
 use Rattle.store_model.specs.Layout.{Layout, data_page}
 use Rattle.store_model.specs.Standing.{AllStand}
 use Rattle.store_model.specs.State.{State}
 use Rattle.store_model.specs.Store as model
+use Rattle.store_model.specs.Script as script
+use Rattle.store_model.specs.Survival.{Group, Survives, groups_by}
 use Rattle.store_model.specs.Turn as turn
 use Rattle.store_model.specs.World as world
 use Rattle.store_model.specs.World.{Outcome, freed, group_in, idle, lead, lead_queue, led, with_commit}
 use Rattle.txn.specs.Requests.{asked_of}
 use Rattle.txn.specs.declared.request.Request.{Request}
+use Rattle.vault.specs.Crashes.{LeadSurvives}
 use Rattle.vault.specs.Leads.{Costs, IsLeadPage, Led, MayHaveWritten, StoreStands, ledger_in}
 use Rattle.vault.specs.Pours.{AreWhole, made_by}
 use Rattle.vault.specs.Vaults.{IsUnmade, IsVault}
 use Rattle.vault.specs.declared.memory.Memory.{Memory}
 use Rattle.vault.specs.declared.vault.Vault.{Vault}
+use Rattle.vault.proofs.Turnings.{turned-wrote}
 use Rattle.blob_steps.specs.Sessions.{SessionStands, StageStands}
 use Rattle.blob_steps.specs.Known.{AllKnown, StoreKnown}
-use Rattle.blob_steps.specs.Steps.{AreDistinct, AreSessions, CameTo, Did, Follows, HaveBegun, IsWorld, Replying, RequestStands, WorldIs, WorldKnown, WorldStands, is_of, replies_text, stage_left}
+use Rattle.blob_steps.specs.Steps.{AreDistinct, AreSessions, CameTo, Did, Follows, HaveBegun, IsWorld, Replying, RequestStands, StepSurvives, WorldIs, WorldKnown, WorldStands, is_of, replies_text, stage_left}
 use Rattle.blob_steps.specs.declared.session.Session.{Session}
 use Rattle.blob_steps.specs.declared.session.Stage.{Stage}
 use Rattle.blob_steps.specs.declared.session.Stage.TheVariants.{Free}
@@ -319,7 +323,7 @@ lead-keeps {D = D} g before queue members old new (inl same) = subst (λ (disk :
 lead-keeps {D = D} g before queue members old new (inr wrote) =
     let windows = wrote.windows in
     let first = windows.first in
-    Keeps-then g old windows.mid new (Keeps-then g old first.base windows.mid first.turned.keeps first.wrote.keeps) (behind windows.second) where
+    Keeps-then g old windows.mid new (Keeps-then g old first.base windows.mid (turned-wrote g old first.base before first.turned).keeps first.wrote.keeps) (behind windows.second) where
       behind : {P : Type 0} {pages : ℕ → Type 0} {mid : D} → (new ≡ mid) ⊎ (P × OnlyWrites g pages mid new) → Keeps g mid new
       behind {mid = mid} (inl same) = subst (λ (disk : D). Keeps g mid disk) (sym same) (Keeps-none g mid)
       behind (inr (settled, written)) = written.keeps
@@ -392,3 +396,20 @@ module _ {D : Type 0} (g : Ghosts D) (mine middle new : World D) (replies : List
           did = did-led done.replied.vault;
           text_is = λ told stand. text_is ∙ members-text mine.queue group_members replies done.are led_is.replies_are;
         })
+
+-- A lead survives as the vault says it, of the group that the program leads.
+pub survives-led : {D : Type 0} (g : Ghosts D) (mine later : World D) → IsWorld g mine → 0 < length mine.queue
+    → (IsTrue g.tells → LeadSurvives g mine.vault.memory mine.queue mine.vault.disk later.vault.disk) → StepSurvives g script.Lead mine later
+survives-led g mine later sound some survives = λ told now is held.
+    let layout : Layout = mine.vault.memory.layout in
+    let members : List Member = members_of (ledger_in mine.vault.memory) mine.queue in
+    let made : made_by now.store (committed mine.queue members) ≡ (led now members).world.store =
+    made-members now.sessions now.store mine.queue members (AreOf-members (ledger_in mine.vault.memory) (no_tally (ledger_in mine.vault.memory)) mine.queue) is.requests in
+    let known : WorldKnown mine now = WorldKnown-stands mine now is in
+    let outcome : lead layout now ≡ led now members =
+    lead-is layout now mine.queue known.queue some
+    ∙ ap (led now) (group-stands mine.vault.memory mine.queue now known.store sound.whole known.queue known.requests) in
+    let same : groups_by (commits_of members) (made_by now.store (committed mine.queue members)) ≡ groups_by (lead layout now).commits (lead layout now).world.store =
+    ap (groups_by (commits_of members)) made ∙ ap (λ (o : Outcome). groups_by o.commits o.world.store) (sym outcome) in
+    subst (λ (groups : List Group). LeavesOnly (λ image. Survives (g.size mine.vault.disk) image layout now.store groups 0) (g.story mine.vault.disk) (g.story later.vault.disk)) same
+    (survives told now.store is.store held)

@@ -22,3 +22,4 @@ pub mod Opening
 pub mod Checkpoints
 pub mod Breaking
 pub mod Knowns
+pub mod Surviving

@@ -1,5 +1,5 @@
 -- A run on the way, and its ends.
-use Rattle.std.proofs.Common.{◌≡◌, ℕ, ◌+◌, ◌≤◌, inl, inr, Bool, IsTrue, List, [], ◌∷◌, ◌++◌, Option, Some, None, Result, Ok, Err, refl, sym, ◌∙◌, ap, subst, arith, append_assoc}
+use Rattle.std.proofs.Common.{◌≡◌, ℕ, ◌+◌, ◌≤◌, inl, inr, Bool, IsTrue, List, [], ◌∷◌, ◌++◌, length, Option, Some, None, Result, Ok, Err, refl, sym, ◌∙◌, ap, subst, arith, append_assoc}
 use Rattle.std.specs.Io.KnownBytes.{Appends, prepend_known}
 use Rattle.std.specs.FinMap.{FinMap}
 use Rattle.std.specs.Prelude.{MatchResult}
@@ -8,6 +8,7 @@ use Rattle.blob_base.specs.Faults.{CameFrom}
 use Rattle.blob_report.specs.Ends.{EndsPrinting, TookFront}
 use Rattle.blob_base.specs.declared.faults.IoFault.{IoFault}
 use Rattle.blob_base.specs.declared.faults.IoFault.TheVariants.{Failed, OutOfMemory}
+use Rattle.disk_model.specs.Disks.{Keeps}
 use Rattle.disk_model.specs.declared.disk.Disk.{Ghosts}
 use Rattle.blob_script.specs.declared.status.Status.{Status}
 use Rattle.blob_script.specs.declared.status.Status.TheVariants as status
@@ -22,13 +23,14 @@ use Rattle.blob_steps.specs.declared.line.LineFault.TheVariants as fault
 use Rattle.blob_steps.specs.Going.{BadLine, EndsReading, EndsStep, Going, GoingSo, PlaysOn, StartsOn, TakesLine, playing, reading_ending, step_ending}
 use Rattle.blob_steps.specs.Nexts.{IsNeverBuilt, IsUnbuilt}
 use Rattle.blob_steps.specs.Lines.{LineTaken, NoLine}
-use Rattle.blob_steps.specs.Runs.{Ended, EndedSo, Grew, IsUndamaged, MayCut, OnPlayed, PagesAre, EndsAs, Ran, RestsAt, ShowsDamage}
-use Rattle.blob_steps.specs.Steps.{CameTo, Did, HaveBegun, IsWorld, WorldStands}
+use Rattle.blob_steps.specs.Runs.{Ended, EndedSo, Grew, IsUndamaged, MayCut, OnPlayed, OnResting, PagesAre, EndsAs, Ran, RunSurvives, ShowsDamage}
+use Rattle.blob_steps.specs.Steps.{CameTo, Did, HaveBegun, IsWorld, StepSurvives, WorldStands, groups_in}
 use Rattle.store_model.specs.Cost.{Cost, Spent, with_line, with_lines}
 use Rattle.store_model.specs.World as model
 use Rattle.store_model.specs.Group.{taken_blocks}
 use Rattle.store_model.specs.World.{Outcome}
-use Rattle.store_model.specs.Images.{Wrote}
+use Rattle.store_model.specs.Endures.{IsUnderWay}
+use Rattle.store_model.specs.Images.{LeavesOnly, Wrote}
 use Rattle.store_model.specs.Key.{key_order}
 use Rattle.store_model.specs.Layout.{Layout}
 use Rattle.store_model.specs.Play.{AtInputEnd, AtMalformed, AtUnbuilt, PlayedLine, play, played_line, step_play, store_behind, taken_in, text_of}
@@ -37,10 +39,14 @@ use Rattle.store_model.specs.Space.{Block}
 use Rattle.store_model.specs.Standing.{AllHeld, AllStand}
 use Rattle.store_model.specs.State.{State}
 use Rattle.store_model.specs.Store.{Object, Store}
+use Rattle.store_model.specs.Survival.{ReadsAs, RestsAs, Survives, SurvivesAll, groups_of, store_at}
 use Rattle.store_model.proofs.ImageLaws.{wider, wrote_none, wrote_then}
+use Rattle.store_model.proofs.SurvivalStoryLaws.{SurvivesAll-begin}
+use Rattle.recover.specs.Openings.{LeavesFrom}
 use Rattle.vault.specs.Leads.{Costs, IsLeadPage}
 use Rattle.vault.specs.declared.vault.Vault.{Vault}
 use Rattle.blob_steps.proofs.Plays.{EndsOn-here, EndsOn-next, EndsOn-skipped, PlaysOn-all, PlaysOn-front, PlaysOn-next, PlaysOn-skipped, end-bad, end-over, end-unbuilt, ends-alike, playing-bad, playing-unbuilt, store_behind-push, taken_in-push, taken_rest, text_of-push, with_lines-push}
+use Rattle.blob_steps.proofs.Surviving.{IsUnderWay-next, IsUnderWay-none, RunSurvives-here, RunSurvives-step, behind-next, survives-next}
 use Rattle.blob_steps.proofs.Resting.{AllHeld-stand, AllStand-held, lead-behind, lead-front, rests-at}
 
 -- a fault in reading a line
@@ -112,10 +118,11 @@ Costs-next g start before begun lines store outcome was mine later store_is so_f
     })
 
 -- a run that goes on by a step
-module _ {D : Type 0} (g : Ghosts D) (start : Store) (before begun : Cost) (mine later : World D) (number : ℕ) (first left rest old taken : Option (List ℕ)) (was : D)
-    (step : Step) (text : List ℕ) (going : Going g start before begun mine number first left old taken was) (takes : TakesLine number left rest (Asks step))
+module _ {D : Type 0} (g : Ghosts D) (start : Store) (before begun : Cost) (since : ℕ) (mine later : World D) (number : ℕ) (first left rest old taken : Option (List ℕ)) (was : D)
+    (step : Step) (text : List ℕ) (going : Going g start before begun since mine number first left old taken was) (takes : TakesLine number left rest (Asks step))
     (same : later.vault.memory.layout ≡ mine.vault.memory.layout) (outcome : Outcome) (played : step_play mine.vault.memory.layout going.world step ≡ Some outcome)
-    (came : CameTo g going.world outcome text mine later) where
+    (came : CameTo g going.world outcome text mine later) (sound : IsWorld g later) (kept : Keeps g mine.vault.disk later.vault.disk)
+    (stepped : StepSurvives g step mine later) where
   -- the lines with that of the step
   abbrev lines_with : List PlayedLine
   lines_with = going.lines ++ played_line outcome ∷ []
@@ -137,7 +144,44 @@ module _ {D : Type 0} (g : Ghosts D) (start : Store) (before begun : Cost) (mine
   counts-later : Costs g before (with_lines start lines_with begun) was later.vault.disk later.vault.memory
   counts-later = Costs-next g start before begun going.lines going.world.store outcome was mine later going.store_is going.counts came.did
 
-  pub Going-next : (more : Option (List ℕ)) → Appends taken more text → Going g start before begun later (number + 1) first rest old more was
+  held-before : IsTrue g.tells → AllHeld (g.story mine.vault.disk).reads mine.vault.memory.layout going.world.store.objects
+  held-before told =
+      subst (λ (s : Store). AllHeld (g.story mine.vault.disk).reads mine.vault.memory.layout s.objects) (sym going.store_is)
+      (AllStand-held start.last (g.story mine.vault.disk).reads mine.vault.memory.layout (store_behind start going.lines).objects (going.pages told).objects)
+
+  -- the disk rests behind the step
+  rests-behind : IsTrue g.tells → RestsAs (g.size later.vault.disk) mine.vault.memory.layout outcome.world.store (g.story later.vault.disk)
+  rests-behind told =
+      let held : AllHeld (g.story later.vault.disk).reads mine.vault.memory.layout outcome.world.store.objects =
+      subst (λ (s : Store). AllHeld (g.story later.vault.disk).reads mine.vault.memory.layout s.objects) (store_behind-push start going.lines (played_line outcome))
+      (AllStand-held start.last (g.story later.vault.disk).reads mine.vault.memory.layout (store_behind start lines_with).objects (pages-later told).objects) in
+      subst (λ (l : Layout). RestsAs (g.size later.vault.disk) l outcome.world.store (g.story later.vault.disk)) same
+      (rests-at g later outcome.world.store told sound came.stands.store
+      (subst (λ (l : Layout). AllHeld (g.story later.vault.disk).reads l outcome.world.store.objects) (sym same) held))
+
+  rests-later : IsTrue g.tells → RestsAs (g.size later.vault.disk) mine.vault.memory.layout (store_behind start lines_with) (g.story later.vault.disk)
+  rests-later told =
+      subst (λ (s : Store). RestsAs (g.size later.vault.disk) mine.vault.memory.layout s (g.story later.vault.disk))
+      (sym (store_behind-push start going.lines (played_line outcome))) (rests-behind told)
+
+  behind-later : store_at start (groups_of lines_with) (length (groups_of lines_with)) ≡ outcome.world.store
+  behind-later = behind-next mine.vault.memory.layout start going.lines going.world step outcome (going.behind ∙ sym going.store_is) played
+
+  survives-later : IsTrue g.tells
+      → SurvivesAll (g.size later.vault.disk) mine.vault.memory.layout start (groups_of lines_with) since (length (groups_of lines_with)) (g.story later.vault.disk)
+  survives-later told =
+      let layout : Layout = mine.vault.memory.layout in
+      let size : g.size mine.vault.disk ≡ g.size later.vault.disk = sym kept.size in
+      let leaves : LeavesOnly (λ image. Survives (g.size mine.vault.disk) image layout going.world.store (groups_in (step_play layout going.world step)) 0)
+      (g.story mine.vault.disk) (g.story later.vault.disk) = stepped told going.world going.stands (held-before told) in
+      survives-next (g.size later.vault.disk) layout start going.lines going.world step outcome since (g.story mine.vault.disk) (g.story later.vault.disk)
+      (going.behind ∙ sym going.store_is) played
+      (subst (λ (pages : ℕ). SurvivesAll pages layout start (groups_of going.lines) since (length (groups_of going.lines)) (g.story mine.vault.disk)) size (going.survives told))
+      (subst (λ (pages : ℕ). LeavesOnly (λ image. Survives pages image layout going.world.store (groups_in (step_play layout going.world step)) 0)
+      (g.story mine.vault.disk) (g.story later.vault.disk)) size leaves)
+      (rests-behind told)
+
+  pub Going-next : (more : Option (List ℕ)) → Appends taken more text → Going g start before begun since later (number + 1) first rest old more was
   Going-next more took =
       let line : PlayedLine = played_line outcome in
       record {
@@ -151,6 +195,10 @@ module _ {D : Type 0} (g : Ghosts D) (start : Store) (before begun : Cost) (mine
         pages = λ told. subst (λ (l : Layout). PagesAre g l start lines_with was later.vault.disk) (sym same) (pages-later told);
         counts = counts-later;
         plays_on = plays-later;
+        behind = behind-later ∙ sym (store_behind-push start going.lines line);
+        survives = λ told.
+            subst (λ (l : Layout). SurvivesAll (g.size later.vault.disk) l start (groups_of lines_with) since (length (groups_of lines_with)) (g.story later.vault.disk)) (sym same)
+            (survives-later told);
       }
 
   -- the sink took a front of what the lines print with that of the step
@@ -176,76 +224,102 @@ module _ {D : Type 0} (g : Ghosts D) (start : Store) (before begun : Cost) (mine
   -- a run that ends with this status in the printing of the step's answer
   cut-short : (one : Status) (more : Option (List ℕ)) (frugal : Bool) → TookFront taken more text → MayCut one frugal
       → (OnPlayed one (PagesAre g mine.vault.memory.layout start lines_with was later.vault.disk))
-      → (OnPlayed one (RestsAt g mine.vault.memory.layout (store_behind start lines_with) later.vault.disk))
+      → (IsTrue g.tells → OnResting one (RestsAs (g.size later.vault.disk) mine.vault.memory.layout (store_behind start lines_with) (g.story later.vault.disk)))
       → (OnPlayed one (Spent before (with_lines start lines_with begun) (g.calls was) (g.calls later.vault.disk)))
       → ((script : List ℕ) → first ≡ Some script → Ran one lines_with (play mine.vault.memory.layout start script))
       → ShowsDamage one (store_behind start lines_with).objects → (IsTrue g.tells → IsUndamaged one)
-      → Ended g mine.vault.memory.layout start before begun frugal first old more was later.vault.disk one
+      → Ended g mine.vault.memory.layout start before begun since frugal first old more was later.vault.disk one
   cut-short one more frugal cut may pages rests counts ran damage whole = record {
     lines = lines_with;
     ran = ran;
     grew = (going.grew.0 ++ cut.text, Appends-trans old taken more going.grew.0 cut.text going.grew.1 cut.took);
     took = λ told. inr (may, TookFront-cut more told cut);
     pages = λ told. pages;
-    rests = λ told. rests;
+    crashes = RunSurvives-here g mine.vault.memory.layout start first lines_with since later.vault.disk lines-front survives-later;
+    rests = rests;
     counts = λ told. counts;
     damage = damage;
     whole = whole;
   }
 
   -- the printing of the step's answer failed
-  pub Ended-printing : (one : Status) (more : Option (List ℕ)) (frugal : Bool) (first_fault since : ℕ) → TookFront taken more text
-      → EndsPrinting one frugal first_fault since → Ended g mine.vault.memory.layout start before begun frugal first old more was later.vault.disk one
-  Ended-printing status.WriteFault more frugal first_fault since cut ends = cut-short status.WriteFault more frugal cut tt tt tt tt lines-front tt (λ told. tt)
-  Ended-printing status.OutOfMemory more frugal first_fault since cut ends = cut-short status.OutOfMemory more frugal cut ends tt tt tt lines-front tt (λ told. tt)
-  Ended-printing (status.Malformed line) more frugal first_fault since cut ends = absurd ends
-  Ended-printing (status.NotBuilt line) more frugal first_fault since cut ends = absurd ends
-  Ended-printing status.ReadFault more frugal first_fault since cut ends = absurd ends
-  Ended-printing status.Done more frugal first_fault since cut ends = absurd ends
-  Ended-printing status.DiskFault more frugal first_fault since cut ends = absurd ends
-  Ended-printing (status.Refused why) more frugal first_fault since cut ends = absurd ends
-  Ended-printing status.Usage more frugal first_fault since cut ends = absurd ends
-  Ended-printing (status.Damaged key link want got) more frugal first_fault since cut ends = absurd ends
+  pub Ended-printing : (one : Status) (more : Option (List ℕ)) (frugal : Bool) (faults_old faults_new : ℕ) → TookFront taken more text
+      → EndsPrinting one frugal faults_old faults_new → Ended g mine.vault.memory.layout start before begun since frugal first old more was later.vault.disk one
+  Ended-printing status.WriteFault more frugal faults_old faults_new cut ends = cut-short status.WriteFault more frugal cut tt tt rests-later tt lines-front tt (λ told. tt)
+  Ended-printing status.OutOfMemory more frugal faults_old faults_new cut ends = cut-short status.OutOfMemory more frugal cut ends tt (λ told. tt) tt lines-front tt (λ told. tt)
+  Ended-printing (status.Malformed line) more frugal faults_old faults_new cut ends = absurd ends
+  Ended-printing (status.NotBuilt line) more frugal faults_old faults_new cut ends = absurd ends
+  Ended-printing status.ReadFault more frugal faults_old faults_new cut ends = absurd ends
+  Ended-printing status.Done more frugal faults_old faults_new cut ends = absurd ends
+  Ended-printing status.DiskFault more frugal faults_old faults_new cut ends = absurd ends
+  Ended-printing (status.Refused why) more frugal faults_old faults_new cut ends = absurd ends
+  Ended-printing status.Usage more frugal faults_old faults_new cut ends = absurd ends
+  Ended-printing (status.Damaged key link want got) more frugal faults_old faults_new cut ends = absurd ends
 
 -- a run that ends where it is, before or at the end of its script
-module _ {D : Type 0} (g : Ghosts D) (start : Store) (before begun : Cost) (mine : World D) (number : ℕ) (first left old taken : Option (List ℕ)) (was : D) (sound : IsWorld g mine)
-    (going : Going g start before begun mine number first left old taken was) where
+module _ {D : Type 0} (g : Ghosts D) (start : Store) (before begun : Cost) (since : ℕ) (mine : World D) (number : ℕ) (first left old taken : Option (List ℕ)) (was : D) (sound : IsWorld g mine)
+    (going : Going g start before begun since mine number first left old taken was) where
   abbrev layout_now : Layout
   layout_now = mine.vault.memory.layout
 
   lines-before : (script : List ℕ) → first ≡ Some script → (rest : List PlayedLine) × ((play layout_now start script).lines ≡ going.lines ++ rest)
   lines-before = PlaysOn-front layout_now start going.lines number going.world first left going.plays_on
 
+  -- the contents are held where the run is
+  pub held-now : IsTrue g.tells → AllHeld (g.story mine.vault.disk).reads layout_now going.world.store.objects
+  held-now told =
+      subst (λ (s : Store). AllHeld (g.story mine.vault.disk).reads layout_now s.objects) (sym going.store_is)
+      (AllStand-held start.last (g.story mine.vault.disk).reads layout_now (store_behind start going.lines).objects (going.pages told).objects)
+
   -- the disk rests where the run is
-  rests-now : IsTrue g.tells → RestsAt g layout_now (store_behind start going.lines) mine.vault.disk
+  rests-now : IsTrue g.tells → RestsAs (g.size mine.vault.disk) layout_now (store_behind start going.lines) (g.story mine.vault.disk)
   rests-now told =
-      subst (λ (s : Store). RestsAt g layout_now s mine.vault.disk) going.store_is
-      (rests-at g mine going.world.store told sound going.stands.store (held-now told)) where
-        held-now : IsTrue g.tells → AllHeld (g.story mine.vault.disk).reads layout_now going.world.store.objects
-        held-now tells =
-            subst (λ (s : Store). AllHeld (g.story mine.vault.disk).reads layout_now s.objects) (sym going.store_is)
-            (AllStand-held start.last (g.story mine.vault.disk).reads layout_now (store_behind start going.lines).objects (going.pages tells).objects)
+      subst (λ (s : Store). RestsAs (g.size mine.vault.disk) layout_now s (g.story mine.vault.disk)) going.store_is
+      (rests-at g mine going.world.store told sound going.stands.store (held-now told))
+
+  -- no step is under way
+  crashes-now : RunSurvives g layout_now start first going.lines since mine.vault.disk
+  crashes-now = RunSurvives-here g layout_now start first going.lines since mine.vault.disk lines-before going.survives
+
+  -- a step is under way
+  crashes-step : (later : World D) (step : Step) (rest : Option (List ℕ)) → TakesLine number left rest (Asks step) → Keeps g mine.vault.disk later.vault.disk
+      → StepSurvives g step mine later → RunSurvives g layout_now start first going.lines since later.vault.disk
+  crashes-step later step rest takes kept stepped = crashes-of (step_play layout_now going.world step) refl where
+    crashes-of : (outcome : Option Outcome) → step_play layout_now going.world step ≡ outcome → RunSurvives g layout_now start first going.lines since later.vault.disk
+    crashes-of outcome played =
+        RunSurvives-step g layout_now start first going.lines since mine.vault.disk later.vault.disk going.world step outcome played kept.size
+        (going.behind ∙ sym going.store_is) (next outcome played) going.survives (λ told. stepped told going.world going.stands (held-now told)) where
+          next : (one : Option Outcome) → step_play layout_now going.world step ≡ one → (text : List ℕ) → first ≡ Some text
+              → IsUnderWay layout_now start text going.lines (groups_in one)
+          next None none text known = let on = lines-before text known in IsUnderWay-none layout_now start text going.lines on.0 on.1
+          next (Some one) is text known =
+              let line : PlayedLine = played_line one in
+              let on = PlaysOn-front layout_now start (going.lines ++ line ∷ []) (number + 1) one.world first rest
+              (PlaysOn-next layout_now start going.lines number going.world first left rest step one takes is going.plays_on) text known in
+              IsUnderWay-next layout_now start text going.lines on.0 one on.1
 
   -- a run that ends with a fault where it is
   ended-here : (one : Status) (newer : D) (frugal : Bool) → OnPlayed one (PagesAre g layout_now start going.lines was newer)
-      → OnPlayed one (RestsAt g layout_now (store_behind start going.lines) newer)
+      → RunSurvives g layout_now start first going.lines since newer
+      → (IsTrue g.tells → OnResting one (RestsAs (g.size newer) layout_now (store_behind start going.lines) (g.story newer)))
       → OnPlayed one (Spent before (with_lines start going.lines begun) (g.calls was) (g.calls newer))
       → ((script : List ℕ) → first ≡ Some script → Ran one going.lines (play layout_now start script))
       → ShowsDamage one (store_behind start going.lines).objects → (IsTrue g.tells → IsUndamaged one)
-      → Ended g layout_now start before begun frugal first old taken was newer one
-  ended-here one newer frugal pages rests counts ran damage whole = record {
+      → Ended g layout_now start before begun since frugal first old taken was newer one
+  ended-here one newer frugal pages crashes rests counts ran damage whole = record {
     lines = going.lines;
     ran = ran;
     grew = going.grew;
     took = λ told. inl (going.took told);
     pages = λ told. pages;
-    rests = λ told. rests;
+    crashes = crashes;
+    rests = rests;
     counts = λ told. counts;
     damage = damage;
     whole = whole;
   }
 
-  pub Ended-over : (frugal : Bool) → NoLine left → Ended g layout_now start before begun frugal first old taken was mine.vault.disk status.Done
+  pub Ended-over : (frugal : Bool) → NoLine left → Ended g layout_now start before begun since frugal first old taken was mine.vault.disk status.Done
   Ended-over frugal none = record {
     lines = going.lines;
     ran = λ script known.
@@ -256,13 +330,14 @@ module _ {D : Type 0} (g : Ghosts D) (start : Store) (before begun : Cost) (mine
     grew = going.grew;
     took = λ told. inl (going.took told);
     pages = going.pages;
+    crashes = crashes-now;
     rests = rests-now;
     counts = going.counts.spent;
     damage = tt;
     whole = λ told. tt;
   }
 
-  pub Ended-bad : (frugal : Bool) → BadLine number left → Ended g layout_now start before begun frugal first old taken was mine.vault.disk (status.Malformed number)
+  pub Ended-bad : (frugal : Bool) → BadLine number left → Ended g layout_now start before begun since frugal first old taken was mine.vault.disk (status.Malformed number)
   Ended-bad frugal bad = record {
     lines = going.lines;
     ran = λ script known.
@@ -273,6 +348,7 @@ module _ {D : Type 0} (g : Ghosts D) (start : Store) (before begun : Cost) (mine
     grew = going.grew;
     took = λ told. inl (going.took told);
     pages = going.pages;
+    crashes = crashes-now;
     rests = rests-now;
     counts = going.counts.spent;
     damage = tt;
@@ -280,7 +356,7 @@ module _ {D : Type 0} (g : Ghosts D) (start : Store) (before begun : Cost) (mine
   }
 
   pub Ended-unbuilt : (frugal : Bool) (step : Step) (rest : Option (List ℕ)) → TakesLine number left rest (Asks step)
-      → step_play layout_now going.world step ≡ None → Ended g layout_now start before begun frugal first old taken was mine.vault.disk (status.NotBuilt number)
+      → step_play layout_now going.world step ≡ None → Ended g layout_now start before begun since frugal first old taken was mine.vault.disk (status.NotBuilt number)
   Ended-unbuilt frugal step rest takes none = record {
     lines = going.lines;
     ran = λ script known.
@@ -292,6 +368,7 @@ module _ {D : Type 0} (g : Ghosts D) (start : Store) (before begun : Cost) (mine
     grew = going.grew;
     took = λ told. inl (going.took told);
     pages = going.pages;
+    crashes = crashes-now;
     rests = rests-now;
     counts = going.counts.spent;
     damage = tt;
@@ -299,8 +376,8 @@ module _ {D : Type 0} (g : Ghosts D) (start : Store) (before begun : Cost) (mine
   }
 
   pub Going-skipped : (later : World D) (rest : Option (List ℕ)) → TakesLine number left rest Skipped → later ≡ mine
-      → Going g start before begun later (number + 1) first rest old taken was
-  Going-skipped later rest takes same = subst (λ (m : World D). Going g start before begun m (number + 1) first rest old taken was) (sym same) (record {
+      → Going g start before begun since later (number + 1) first rest old taken was
+  Going-skipped later rest takes same = subst (λ (m : World D). Going g start before begun since m (number + 1) first rest old taken was) (sym same) (record {
     world = going.world;
     stands = going.stands;
     lines = going.lines;
@@ -310,49 +387,46 @@ module _ {D : Type 0} (g : Ghosts D) (start : Store) (before begun : Cost) (mine
     pages = going.pages;
     counts = going.counts;
     plays_on = PlaysOn-skipped layout_now start going.lines number going.world first left rest takes going.plays_on;
+    behind = going.behind;
+    survives = going.survives;
   })
 
-  pub Ended-reading : (one : Status) (frugal : Bool) (first_fault since : ℕ) → EndsReading one number left first_fault since
-      → Ended g layout_now start before begun frugal first old taken was mine.vault.disk one
-  Ended-reading (status.Malformed line) frugal first_fault since ends =
-      subst (λ (n : ℕ). Ended g layout_now start before begun frugal first old taken was mine.vault.disk (status.Malformed n)) (sym ends.0) (Ended-bad frugal ends.1)
-  Ended-reading (status.NotBuilt line) frugal first_fault since ends = absurd ends
-  Ended-reading status.ReadFault frugal first_fault since ends = ended-here status.ReadFault mine.vault.disk frugal tt tt tt lines-before tt (λ told. tt)
-  Ended-reading status.OutOfMemory frugal first_fault since ends = ended-here status.OutOfMemory mine.vault.disk frugal tt tt tt lines-before tt (λ told. tt)
-  Ended-reading status.Done frugal first_fault since ends = absurd ends
-  Ended-reading status.WriteFault frugal first_fault since ends = absurd ends
-  Ended-reading status.DiskFault frugal first_fault since ends = absurd ends
-  Ended-reading (status.Refused why) frugal first_fault since ends = absurd ends
-  Ended-reading status.Usage frugal first_fault since ends = absurd ends
-  Ended-reading (status.Damaged key link want got) frugal first_fault since ends = absurd ends
+  pub Ended-reading : (one : Status) (frugal : Bool) (faults_old faults_new : ℕ) → EndsReading one number left faults_old faults_new
+      → Ended g layout_now start before begun since frugal first old taken was mine.vault.disk one
+  Ended-reading (status.Malformed line) frugal faults_old faults_new ends =
+      subst (λ (n : ℕ). Ended g layout_now start before begun since frugal first old taken was mine.vault.disk (status.Malformed n)) (sym ends.0) (Ended-bad frugal ends.1)
+  Ended-reading (status.NotBuilt line) frugal faults_old faults_new ends = absurd ends
+  Ended-reading status.ReadFault frugal faults_old faults_new ends = ended-here status.ReadFault mine.vault.disk frugal tt crashes-now rests-now tt lines-before tt (λ told. tt)
+  Ended-reading status.OutOfMemory frugal faults_old faults_new ends = ended-here status.OutOfMemory mine.vault.disk frugal tt crashes-now (λ told. tt) tt lines-before tt (λ told. tt)
+  Ended-reading status.Done frugal faults_old faults_new ends = absurd ends
+  Ended-reading status.WriteFault frugal faults_old faults_new ends = absurd ends
+  Ended-reading status.DiskFault frugal faults_old faults_new ends = absurd ends
+  Ended-reading (status.Refused why) frugal faults_old faults_new ends = absurd ends
+  Ended-reading status.Usage frugal faults_old faults_new ends = absurd ends
+  Ended-reading (status.Damaged key link want got) frugal faults_old faults_new ends = absurd ends
 
   -- a step had no answer
-  pub Ended-step : (one : Status) (later : World D) (frugal : Bool) (first_fault since : ℕ) (step : Step) (rest : Option (List ℕ)) → TakesLine number left rest (Asks step)
-      → IsUnbuilt layout_now going.world step number mine.vault later.vault one → EndsStep one first_fault since → ShowsDamage one going.world.store.objects
-      → (IsTrue g.tells → IsUndamaged one) → Ended g layout_now start before begun frugal first old taken was later.vault.disk one
-  Ended-step status.DiskFault later frugal first_fault since step rest takes unbuilt ends shows undamaged =
-      ended-here status.DiskFault later.vault.disk frugal tt tt tt lines-before tt (λ told. tt)
-  Ended-step status.OutOfMemory later frugal first_fault since step rest takes unbuilt ends shows undamaged =
-      ended-here status.OutOfMemory later.vault.disk frugal tt tt tt lines-before tt (λ told. tt)
-  Ended-step (status.Damaged key link want got) later frugal first_fault since step rest takes unbuilt ends shows undamaged =
-      ended-here (status.Damaged key link want got) later.vault.disk frugal tt tt tt lines-before
+  pub Ended-step : (one : Status) (later : World D) (frugal : Bool) (faults_old faults_new : ℕ) (step : Step) (rest : Option (List ℕ)) → TakesLine number left rest (Asks step)
+      → IsUnbuilt layout_now going.world step number mine.vault later.vault one → EndsStep one faults_old faults_new → ShowsDamage one going.world.store.objects
+      → (IsTrue g.tells → IsUndamaged one) → Keeps g mine.vault.disk later.vault.disk → StepSurvives g step mine later
+      → Ended g layout_now start before begun since frugal first old taken was later.vault.disk one
+  Ended-step status.DiskFault later frugal faults_old faults_new step rest takes unbuilt ends shows undamaged kept stepped =
+      ended-here status.DiskFault later.vault.disk frugal tt (crashes-step later step rest takes kept stepped) (λ told. tt) tt lines-before tt (λ told. tt)
+  Ended-step status.OutOfMemory later frugal faults_old faults_new step rest takes unbuilt ends shows undamaged kept stepped =
+      ended-here status.OutOfMemory later.vault.disk frugal tt (crashes-step later step rest takes kept stepped) (λ told. tt) tt lines-before tt (λ told. tt)
+  Ended-step (status.Damaged key link want got) later frugal faults_old faults_new step rest takes unbuilt ends shows undamaged kept stepped =
+      ended-here (status.Damaged key link want got) later.vault.disk frugal tt (crashes-step later step rest takes kept stepped) (λ told. absurd (undamaged told)) tt lines-before
       (subst (λ (s : Store). ShowsDamage (status.Damaged key link want got) s.objects) going.store_is shows) undamaged
-  Ended-step (status.Malformed line) later frugal first_fault since step rest takes unbuilt ends shows undamaged = absurd ends
-  Ended-step (status.NotBuilt line) later frugal first_fault since step rest takes unbuilt ends shows undamaged =
-      subst (λ (n : ℕ). Ended g layout_now start before begun frugal first old taken was later.vault.disk (status.NotBuilt n)) (sym unbuilt.0)
-      (subst (λ (v : Vault D). Ended g layout_now start before begun frugal first old taken was v.disk (status.NotBuilt number)) (sym unbuilt.2)
+  Ended-step (status.Malformed line) later frugal faults_old faults_new step rest takes unbuilt ends shows undamaged kept stepped = absurd ends
+  Ended-step (status.NotBuilt line) later frugal faults_old faults_new step rest takes unbuilt ends shows undamaged kept stepped =
+      subst (λ (n : ℕ). Ended g layout_now start before begun since frugal first old taken was later.vault.disk (status.NotBuilt n)) (sym unbuilt.0)
+      (subst (λ (v : Vault D). Ended g layout_now start before begun since frugal first old taken was v.disk (status.NotBuilt number)) (sym unbuilt.2)
       (Ended-unbuilt frugal step rest takes unbuilt.1))
-  Ended-step status.ReadFault later frugal first_fault since step rest takes unbuilt ends shows undamaged = absurd ends
-  Ended-step status.Done later frugal first_fault since step rest takes unbuilt ends shows undamaged = absurd ends
-  Ended-step status.WriteFault later frugal first_fault since step rest takes unbuilt ends shows undamaged = absurd ends
-  Ended-step (status.Refused why) later frugal first_fault since step rest takes unbuilt ends shows undamaged = absurd ends
-  Ended-step status.Usage later frugal first_fault since step rest takes unbuilt ends shows undamaged = absurd ends
-
-  -- the contents are held where the run is
-  pub held-now : IsTrue g.tells → AllHeld (g.story mine.vault.disk).reads layout_now going.world.store.objects
-  held-now told =
-      subst (λ (s : Store). AllHeld (g.story mine.vault.disk).reads layout_now s.objects) (sym going.store_is)
-      (AllStand-held start.last (g.story mine.vault.disk).reads layout_now (store_behind start going.lines).objects (going.pages told).objects)
+  Ended-step status.ReadFault later frugal faults_old faults_new step rest takes unbuilt ends shows undamaged kept stepped = absurd ends
+  Ended-step status.Done later frugal faults_old faults_new step rest takes unbuilt ends shows undamaged kept stepped = absurd ends
+  Ended-step status.WriteFault later frugal faults_old faults_new step rest takes unbuilt ends shows undamaged kept stepped = absurd ends
+  Ended-step (status.Refused why) later frugal faults_old faults_new step rest takes unbuilt ends shows undamaged kept stepped = absurd ends
+  Ended-step status.Usage later frugal faults_old faults_new step rest takes unbuilt ends shows undamaged kept stepped = absurd ends
 
 -- the same of a status that is known
 pub EndsReading-ended : (one : Status) (why : LineFault) (number : ℕ) (left : Option (List ℕ)) (before now : ℕ) (frugal : Bool) → one ≡ reading_ending why
@@ -364,12 +438,16 @@ pub HaveBegun-more : {D : Type 0} (mine : World D) (n m : ℕ) → HaveBegun n m
 HaveBegun-more mine n m have less = λ number one is. omega (arith, have number one is, less)
 
 -- a run of a world over a vault begins
-pub starts-over : {D : Type 0} (g : Ghosts D) (mine : World D) (vault : Vault D) (start : Store) (cost : Cost) → mine.vault ≡ vault → WorldStands mine (model.world_over start)
-    → cost.gate ≡ vault.memory.log.gate → (IsTrue g.tells → AllHeld (g.story vault.disk).reads vault.memory.layout start.objects) → StartsOn g start cost mine
-starts-over {D = D} g mine vault start cost same stands gate held = record {
+pub starts-over : {D : Type 0} (g : Ghosts D) (mine : World D) (vault : Vault D) (start : Store) (cost : Cost) (since : ℕ) → mine.vault ≡ vault → WorldStands mine (model.world_over start)
+    → cost.gate ≡ vault.memory.log.gate → (IsTrue g.tells → AllHeld (g.story vault.disk).reads vault.memory.layout start.objects)
+    → (IsTrue g.tells → LeavesFrom g (λ image. ReadsAs (g.size vault.disk) image vault.memory.layout start.objects start.last) since vault.disk)
+    → StartsOn g start cost since mine
+starts-over {D = D} g mine vault start cost since same stands gate held leaves = record {
   stands = stands;
   held = λ told. subst (λ (v : Vault D). AllHeld (g.story v.disk).reads v.memory.layout start.objects) (sym same) (held told);
   gate = ap (λ (v : Vault D). v.memory.log.gate) same ∙ sym gate;
+  survives = λ told.
+      subst (λ (v : Vault D). LeavesFrom g (λ image. ReadsAs (g.size v.disk) image v.memory.layout start.objects start.last) since v.disk) (sym same) (leaves told);
 }
 
 -- what holds of the status that a run ended with
@@ -379,9 +457,9 @@ ended-status P (Ok x) how is holds = subst P (sym is) holds
 ended-status P (Err s) how is holds = subst P (sym is) holds
 
 -- a run that begins
-pub Going-first : {D : Type 0} (g : Ghosts D) (mine : World D) (start : Store) (cost : Cost) (first taken : Option (List ℕ)) → IsWorld g mine → StartsOn g start cost mine
-    → Going g start cost cost mine 1 first first taken taken mine.vault.disk
-Going-first g mine start cost first taken sound starts = record {
+pub Going-first : {D : Type 0} (g : Ghosts D) (mine : World D) (start : Store) (cost : Cost) (since : ℕ) (first taken : Option (List ℕ)) → IsWorld g mine → StartsOn g start cost since mine
+    → Going g start cost cost since mine 1 first first taken taken mine.vault.disk
+Going-first g mine start cost since first taken sound starts = record {
   world = model.world_over start;
   stands = starts.stands;
   lines = [];
@@ -394,6 +472,9 @@ Going-first g mine start cost first taken sound starts = record {
   };
   counts = record { gate = starts.gate; spent = λ told. record { writes = refl; syncs = refl } };
   plays_on = λ script known. (script, known, refl);
+  behind = refl;
+  survives = λ told.
+      SurvivesAll-begin (g.size mine.vault.disk) mine.vault.memory.layout start since (g.story mine.vault.disk) (starts.survives told).past (starts.survives told).each;
 }
 
 -- and whatever the disk tells
@@ -482,27 +563,30 @@ module _ (number : ℕ) (first left old taken : Option (List ℕ)) (going : Goin
   EndedSo-printing (status.Damaged key link want got) more frugal before since text cut ends = absurd ends
 
 -- a run that ended before its first line
-module _ {D : Type 0} (g : Ghosts D) (layout : Layout) (start : Store) (before begun : Cost) (frugal : Bool) (script taken : Option (List ℕ)) (was now : D) where
-  pub Ended-no_memory : Ended g layout start before begun frugal script taken taken was now status.OutOfMemory
+module _ {D : Type 0} (g : Ghosts D) (layout : Layout) (start : Store) (before begun : Cost) (since : ℕ) (frugal : Bool) (script taken : Option (List ℕ)) (was now : D)
+    (crashes : RunSurvives g layout start script [] since now) where
+  pub Ended-no_memory : Ended g layout start before begun since frugal script taken taken was now status.OutOfMemory
   Ended-no_memory = record {
     lines = [];
     ran = λ text known. ((play layout start text).lines, refl);
     grew = ([], Appends-nil taken);
     took = λ told. inl (Appends-nil taken);
     pages = λ told. tt;
+    crashes = crashes;
     rests = λ told. tt;
     counts = λ told. tt;
     damage = tt;
     whole = λ told. tt;
   }
 
-  pub Ended-no_disk : Ended g layout start before begun frugal script taken taken was now status.DiskFault
+  pub Ended-no_disk : Ended g layout start before begun since frugal script taken taken was now status.DiskFault
   Ended-no_disk = record {
     lines = [];
     ran = λ text known. ((play layout start text).lines, refl);
     grew = ([], Appends-nil taken);
     took = λ told. inl (Appends-nil taken);
     pages = λ told. tt;
+    crashes = crashes;
     rests = λ told. tt;
     counts = λ told. tt;
     damage = tt;

@@ -1,16 +1,16 @@
 -- A script over a disk that is formatted or opened first.
-use Rattle.std.proofs.Common.{◌≡◌, ℕ, ◌+◌, ◌<◌, ◌≤◌, IsTrue, Bool, List, Option, Some, None, inl, inr, refl, sym, ◌∙◌, ap, subst, arith}
+use Rattle.std.proofs.Common.{◌≡◌, ◌⊎◌, ℕ, ◌+◌, ◌<◌, ◌≤◌, IsTrue, Bool, List, [], Option, Some, None, inl, inr, refl, sym, ◌∙◌, ap, subst, arith}
 use Rattle.std.specs.FinMap.{empty, get, get-empty}
 use Rattle.disk_model.specs.Disks.{OnlyWrites}
 use Rattle.disk_model.specs.declared.disk.Disk.{Ghosts}
-use Rattle.recover.specs.Openings.{IsMetadata}
+use Rattle.recover.specs.Openings.{BeginsAt, IsMetadata, LeavesFrom}
 use Rattle.recover.specs.Turns.{IsTurnPage, found_by}
 use Rattle.blob_script.specs.declared.status.Status.{Status}
 use Rattle.blob_script.specs.declared.status.Status.TheVariants as status
 use Rattle.store_model.specs.Cost.{Cost, Spent, no_cost, with_format, with_lines}
 use Rattle.store_model.specs.Disk.{Calls, Image, Took}
 use Rattle.store_model.specs.Half.{picked}
-use Rattle.store_model.specs.Images.{Wrote}
+use Rattle.store_model.specs.Images.{Wrote, time_of}
 use Rattle.store_model.specs.Key.{key_order}
 use Rattle.store_model.specs.Layout.{Layout, data_page}
 use Rattle.store_model.specs.Play.{taken_in}
@@ -52,7 +52,8 @@ use Rattle.blob_steps.specs.Breaks.{ComesTo, EndsAtBreak, IsBrokenGet}
 use Rattle.blob_steps.specs.Known.{FoundKnown, StoreKnown}
 use Rattle.blob_steps.specs.Forms.{DidFresh, DidSteps, IsDamageOfState, IsRefusal}
 use Rattle.blob_steps.specs.Going.{IsAccepted}
-use Rattle.blob_steps.specs.Runs.{Ended, EndedSo, OnPlayed}
+use Rattle.blob_steps.specs.Runs.{Ended, EndedSo, OnPlayed, RunSurvives}
+use Rattle.blob_steps.proofs.Surviving.{RunSurvives-begin, RunSurvives-early}
 use Rattle.blob_steps.proofs.OnTheWay.{EndedSo-no_disk, EndedSo-no_memory, Ended-no_disk, Ended-no_memory}
 
 -- what holds of a run that was played to an end
@@ -76,10 +77,10 @@ Spent-then first mid last old now new one other = record {
 }
 
 -- A run behind calls which wrote no page of the data area.
-pub Ended-behind : {D : Type 0} (g : Ghosts D) (layout : Layout) (start : Store) (first middle begun : Cost) (frugal : Bool) (script old new : Option (List ℕ)) (was mid now : D) (how : Status)
+pub Ended-behind : {D : Type 0} (g : Ghosts D) (layout : Layout) (start : Store) (first middle begun : Cost) (since : ℕ) (frugal : Bool) (script old new : Option (List ℕ)) (was mid now : D) (how : Status)
     → (IsTrue g.tells → Wrote (λ (p : ℕ). p < data_page layout) (g.story was) (g.story mid)) → (IsTrue g.tells → Spent first middle (g.calls was) (g.calls mid))
-    → Ended g layout start middle begun frugal script old new mid now how → Ended g layout start first begun frugal script old new was now how
-Ended-behind g layout start first middle begun frugal script old new was mid now how wrote spent ended = record {
+    → Ended g layout start middle begun since frugal script old new mid now how → Ended g layout start first begun since frugal script old new was now how
+Ended-behind g layout start first middle begun since frugal script old new was mid now how wrote spent ended = record {
   lines = ended.lines;
   ran = ended.ran;
   grew = ended.grew;
@@ -90,6 +91,7 @@ Ended-behind g layout start first middle begun frugal script old new was mid now
         (wider (λ (p : ℕ). p < data_page layout) (IsLeadPage layout (taken_in ended.lines)) (g.story was) (g.story mid) (λ p before. inl before) (wrote told))
         pages.others;
   }) (ended.pages told);
+  crashes = ended.crashes;
   rests = ended.rests;
   counts = λ told.
       on-played how
@@ -151,9 +153,13 @@ pub record RanOpened {S K D : Type 0} (source : source_trait.Ghosts S) (sink : s
   pub stands : IsTrue g.tells → (layout : Layout) (store : Store) → ReadsAs (g.size disk_old) (g.story disk_old).reads layout store.objects store.last
       → IsOpenedAs g layout store vault.disk vault.memory
   pub wrote : OnlyWrites g (IsMetadata (g.size disk_old) (g.story disk_old).reads) disk_old vault.disk
-  pub ended : (start : Store) (behind : Cost) → StoreStands vault.memory start → behind.gate ≡ vault.memory.log.gate
+  pub survives : IsTrue g.tells → (layout : Layout) (store : Store) (since : ℕ) → BeginsAt g disk_old since
+      → ReadsAs (g.size disk_old) (g.story disk_old).reads layout store.objects store.last
+      → LeavesFrom g (λ image. ReadsAs (g.size disk_old) image layout store.objects store.last) since vault.disk
+  pub ended : (start : Store) (behind : Cost) (since : ℕ) → StoreStands vault.memory start → behind.gate ≡ vault.memory.log.gate
       → (IsTrue g.tells → AllHeld (g.story vault.disk).reads vault.memory.layout start.objects)
-      → Ended g vault.memory.layout start behind behind (sink.frugal sink_old) (source.left source_old) (sink.taken sink_old) (sink.taken sink_new) vault.disk disk_new how
+      → (IsTrue g.tells → LeavesFrom g (λ image. ReadsAs (g.size vault.disk) image vault.memory.layout start.objects start.last) since vault.disk)
+      → Ended g vault.memory.layout start behind behind since (sink.frugal sink_old) (source.left source_old) (sink.taken sink_old) (sink.taken sink_new) vault.disk disk_new how
   pub breaks : IsTrue g.tells → (image : Image) (start : Store) (script : List ℕ) (one : Damage) → StoreKnown vault.memory start
       → ((at : ℕ) → (g.story vault.disk).reads (data_page vault.memory.layout + at) ≡ image (data_page vault.memory.layout + at))
       → source.left source_old ≡ Some script
@@ -163,6 +169,13 @@ pub record RanOpened {S K D : Type 0} (source : source_trait.Ghosts S) (sink : s
   pub own : IsAccepted how
   pub among : IsDamageOfState how
 
+-- what a crash leaves, of the disk's own size
+leaves-sized : {D : Type 0} (g : Ghosts D) (layout : Layout) (store : Store) (since : ℕ) (now : D) (pages : ℕ) → pages ≡ g.size now
+    → LeavesFrom g (λ image. ReadsAs pages image layout store.objects store.last) since now
+    → LeavesFrom g (λ image. ReadsAs (g.size now) image layout store.objects store.last) since now
+leaves-sized g layout store since now pages same leaves =
+    subst (λ (n : ℕ). LeavesFrom g (λ image. ReadsAs n image layout store.objects store.last) since now) same leaves
+
 -- A script was run over a vault that was opened.
 pub DidSteps-opened : {S K D : Type 0} (source : source_trait.Ghosts S) (sink : sink_trait.Ghosts K) (g : Ghosts D) (cost : Cost) (source_old : S) (sink_old : K) (disk_old : D)
     (vault : Vault D) (how : Status) (source_new : S) (sink_new : K) (disk_new : D) → RanOpened source sink g cost source_old sink_old disk_old vault how sink_new disk_new
@@ -170,16 +183,19 @@ pub DidSteps-opened : {S K D : Type 0} (source : source_trait.Ghosts S) (sink : 
 DidSteps-opened source sink g cost source_old sink_old disk_old vault how source_new sink_new disk_new ran = record {
   refused = λ why is. absurd (accepted-not how why ran.own is);
   opened = λ told is. (found_of vault.memory, ran.found told);
-  ended = λ told layout start reads.
+  ended = λ told layout start since reads begins.
       let at = ran.stands told layout start reads in
       let costs = ran.costs start at.stands in
       let held : IsTrue g.tells → AllHeld (g.story vault.disk).reads vault.memory.layout start.objects =
-      λ yes. subst (λ (l : Layout). AllHeld (g.story vault.disk).reads l start.objects) (sym at.layout_is) at.held in (
+      λ yes. subst (λ (l : Layout). AllHeld (g.story vault.disk).reads l start.objects) (sym at.layout_is) at.held in
+      let leaves : IsTrue g.tells → LeavesFrom g (λ image. ReadsAs (g.size vault.disk) image vault.memory.layout start.objects start.last) since vault.disk =
+      λ yes. subst (λ (l : Layout). LeavesFrom g (λ image. ReadsAs (g.size vault.disk) image l start.objects start.last) since vault.disk) (sym at.layout_is)
+      (leaves-sized g layout start since vault.disk (g.size disk_old) (sym ran.wrote.keeps.size) (ran.survives told layout start since begins reads)) in (
         ran.own,
-        subst (λ (l : Layout). Ended g l start cost (with_opening start cost) (sink.frugal sink_old) (source.left source_old) (sink.taken sink_old) (sink.taken sink_new) disk_old disk_new how) at.layout_is
-            (Ended-behind g vault.memory.layout start cost (with_opening start cost) (with_opening start cost) (sink.frugal sink_old) (source.left source_old) (sink.taken sink_old) (sink.taken sink_new) disk_old vault.disk disk_new how
+        subst (λ (l : Layout). Ended g l start cost (with_opening start cost) since (sink.frugal sink_old) (source.left source_old) (sink.taken sink_old) (sink.taken sink_new) disk_old disk_new how) at.layout_is
+            (Ended-behind g vault.memory.layout start cost (with_opening start cost) (with_opening start cost) since (sink.frugal sink_old) (source.left source_old) (sink.taken sink_old) (sink.taken sink_new) disk_old vault.disk disk_new how
             (metadata-wrote g disk_old vault.disk (found_of vault.memory) (ran.found told) ran.wrote) costs.spent
-            (ran.ended start (with_opening start cost) at.stands (sym costs.gate) held)),
+            (ran.ended start (with_opening start cost) since at.stands (sym costs.gate) held leaves)),
       );
   broken = λ told found reads start known script left_is one comes.
       let image : Image = (g.story disk_old).reads in
@@ -197,34 +213,55 @@ DidSteps-opened source sink g cost source_old sink_old disk_old vault how source
 never-both : (pages : ℕ) (image : Image) (why : Refusal) (found : Found) → Reads pages image (Refused why) → Reads pages image (Opened found) → ⊥
 never-both pages image why found one other = let same : Refused why ≡ Opened found = Reads-one pages image (Refused why) (Opened found) one other in absurd (cc same)
 
+-- what survives of a run over a disk that wasn't opened
+crashes-unopened : {D : Type 0} (g : Ghosts D) (layout : Layout) (start : Store) (script : Option (List ℕ)) (since : ℕ) (old now : D) → g.size now ≡ g.size old
+    → LeavesFrom g (λ image. ReadsAs (g.size old) image layout start.objects start.last) since now ⊎ (OnlyReads g old now × ((g.story now).time ≤ since))
+    → RunSurvives g layout start script [] since now
+crashes-unopened g layout start script since old now size (inl leaves) =
+    RunSurvives-begin g layout start script since now (λ told. leaves-sized g layout start since now (g.size old) (sym size) leaves)
+crashes-unopened g layout start script since old now size (inr early) = RunSurvives-early g layout start script since now (λ told. early.1)
+
 -- A disk wasn't opened.
 pub DidSteps-unopened : {S K D : Type 0} (source : source_trait.Ghosts S) (sink : sink_trait.Ghosts K) (g : Ghosts D) (cost : Cost) (from : S) (to : K) (disk_old disk_new : D)
     (fault : RecoverFault) → (IsTrue g.tells → IsRead (g.size disk_old) (g.story disk_old).reads fault)
     → ((why : StoreRefusal) → fault ≡ recover_fault.Refused why → OnlyReads g disk_old disk_new)
+    → g.size disk_new ≡ g.size disk_old
+    → (IsTrue g.tells → (layout : Layout) (store : Store) (since : ℕ) → BeginsAt g disk_old since
+    → ReadsAs (g.size disk_old) (g.story disk_old).reads layout store.objects store.last
+    → LeavesFrom g (λ image. ReadsAs (g.size disk_old) image layout store.objects store.last) since disk_new
+    ⊎ (OnlyReads g disk_old disk_new × ((g.story disk_new).time ≤ since)))
     → DidSteps source sink g cost from to disk_old (opening_ending fault) from to disk_new
-DidSteps-unopened source sink g cost from to disk_old disk_new (recover_fault.Refused why) read untouched = record {
+DidSteps-unopened source sink g cost from to disk_old disk_new (recover_fault.Refused why) read untouched size survives = record {
   refused = λ other is.
       let same : why ≡ other = cc is in
       subst (λ (w : StoreRefusal). (from ≡ from) × TurnedAway g w to to disk_old disk_new) same
       (refl, record { reads = read; alone = refl; only = untouched why refl });
   opened = λ told is. absurd is;
-  ended = λ told layout start reads. absurd (never-both (g.size disk_old) (g.story disk_old).reads (refusal_of why) reads.found (read told) reads.reads);
+  ended = λ told layout start since reads begins. absurd (never-both (g.size disk_old) (g.story disk_old).reads (refusal_of why) reads.found (read told) reads.reads);
   broken = λ told found reads start known script left_is one comes. absurd (never-both (g.size disk_old) (g.story disk_old).reads (refusal_of why) found (read told) reads);
   so = λ no. absurd (no tt);
   damage = tt;
 }
-DidSteps-unopened source sink g cost from to disk_old disk_new recover_fault.Failed read untouched = record {
+DidSteps-unopened source sink g cost from to disk_old disk_new recover_fault.Failed read untouched size survives = record {
   refused = λ why is. absurd (cc is);
   opened = λ told is. absurd is;
-  ended = λ told layout start reads. (tt, Ended-no_disk g layout start cost (with_opening start cost) (sink.frugal to) (source.left from) (sink.taken to) disk_old disk_new);
+  ended = λ told layout start since reads begins. (
+    tt,
+    Ended-no_disk g layout start cost (with_opening start cost) since (sink.frugal to) (source.left from) (sink.taken to) disk_old disk_new
+        (crashes-unopened g layout start (source.left from) since disk_old disk_new size (survives told layout start since begins reads)),
+  );
   broken = λ told found reads start known script left_is one comes. tt;
   so = λ no. EndedSo-no_disk (source.left from) (sink.taken to);
   damage = tt;
 }
-DidSteps-unopened source sink g cost from to disk_old disk_new recover_fault.OutOfMemory read untouched = record {
+DidSteps-unopened source sink g cost from to disk_old disk_new recover_fault.OutOfMemory read untouched size survives = record {
   refused = λ why is. absurd (cc is);
   opened = λ told is. absurd is;
-  ended = λ told layout start reads. (tt, Ended-no_memory g layout start cost (with_opening start cost) (sink.frugal to) (source.left from) (sink.taken to) disk_old disk_new);
+  ended = λ told layout start since reads begins. (
+    tt,
+    Ended-no_memory g layout start cost (with_opening start cost) since (sink.frugal to) (source.left from) (sink.taken to) disk_old disk_new
+        (crashes-unopened g layout start (source.left from) since disk_old disk_new size (survives told layout start since begins reads)),
+  );
   broken = λ told found reads start known script left_is one comes. tt;
   so = λ no. EndedSo-no_memory (source.left from) (sink.taken to);
   damage = tt;
@@ -280,9 +317,12 @@ DidFresh-formatted source sink g layout source_old sink_old disk_old mid how sou
           absurd (never-both (g.size mid) (g.story mid).reads (refusal_of why) (found_by layout 0 empty) ((ran.did.refused why is).1.reads told) (reads told));
       away = λ refusal. let why = refusal-why how refusal in let turned = ran.did.refused why.0 why.1 in (turned.0, turned.1.alone);
       ended = λ told enough.
-          let ended = ran.did.ended told layout empty_store (ReadsAs-empty (g.size mid) (g.story mid).reads layout (reads told)) in (
+          let since : ℕ = time_of (g.calls disk_old) + 6 in
+          let took = ran.calls told in
+          let at : since ≡ time_of (g.calls mid) + 1 = omega (arith, took.reads, took.writes, took.syncs) in
+          let ended = ran.did.ended told layout empty_store since (ReadsAs-empty (g.size mid) (g.story mid).reads layout (reads told)) (inl at) in inl (
             ended.0,
-            Ended-behind g layout empty_store no_cost (with_format no_cost) (with_opening empty_store (with_format no_cost)) (sink.frugal sink_old) (source.left source_old) (sink.taken sink_old) (sink.taken sink_new) disk_old mid disk_new how
+            Ended-behind g layout empty_store no_cost (with_format no_cost) (with_opening empty_store (with_format no_cost)) since (sink.frugal sink_old) (source.left source_old) (sink.taken sink_old) (sink.taken sink_new) disk_old mid disk_new how
                 (λ yes. wider (IsTurnPage layout 0) (λ (p : ℕ). p < data_page layout) (g.story disk_old) (g.story mid) (format-before layout) (ran.wrote.wrote yes))
                 (λ yes. Spent-format (g.calls disk_old) (g.calls mid) (ran.calls yes)) ended.1,
           );
@@ -295,8 +335,9 @@ pub DidFresh-unformatted : {S K D : Type 0} (source : source_trait.Ghosts S) (si
     (fault : RecoverFault) → (g.size disk_old < total_pages layout → fault ≡ recover_fault.Refused (TooSmall (total_pages layout) (g.size disk_old)))
     → (g.size disk_old < total_pages layout → disk_new ≡ disk_old)
     → FormatCameFrom (total_pages layout) (g.size disk_old) (g.faults disk_old) (g.faults disk_new) (g.frugal disk_old) fault
+    → OnlyWrites g (IsTurnPage layout 0) disk_old disk_new
     → DidFresh source sink g layout from to disk_old (opening_ending fault) from to disk_new
-DidFresh-unformatted source sink g layout from to disk_old disk_new (recover_fault.Refused (TooSmall need have)) small untouched came = record {
+DidFresh-unformatted source sink g layout from to disk_old disk_new (recover_fault.Refused (TooSmall need have)) small untouched came wrote = record {
   small = λ why is. (
     ap opening_ending (small is.small) ∙ ap status.Refused (sym is.why_is),
     record { source = refl; sink = refl; disk = untouched is.small },
@@ -309,25 +350,23 @@ DidFresh-unformatted source sink g layout from to disk_old disk_new (recover_fau
   so = λ no. absurd (no tt);
   damage = tt;
 }
-DidFresh-unformatted source sink g layout from to disk_old disk_new (recover_fault.Refused (BadHalf half at)) small untouched came = absurd came
-DidFresh-unformatted source sink g layout from to disk_old disk_new (recover_fault.Refused (BadTuple half at)) small untouched came = absurd came
-DidFresh-unformatted source sink g layout from to disk_old disk_new (recover_fault.Refused (BadFrame half page)) small untouched came = absurd came
-DidFresh-unformatted source sink g layout from to disk_old disk_new (recover_fault.Refused (OwnedTwice page)) small untouched came = absurd came
-DidFresh-unformatted source sink g layout from to disk_old disk_new recover_fault.Failed small untouched came = record {
+DidFresh-unformatted source sink g layout from to disk_old disk_new (recover_fault.Refused (BadHalf half at)) small untouched came wrote = absurd came
+DidFresh-unformatted source sink g layout from to disk_old disk_new (recover_fault.Refused (BadTuple half at)) small untouched came wrote = absurd came
+DidFresh-unformatted source sink g layout from to disk_old disk_new (recover_fault.Refused (BadFrame half page)) small untouched came wrote = absurd came
+DidFresh-unformatted source sink g layout from to disk_old disk_new (recover_fault.Refused (OwnedTwice page)) small untouched came wrote = absurd came
+DidFresh-unformatted source sink g layout from to disk_old disk_new recover_fault.Failed small untouched came wrote = record {
   small = λ why is. absurd (cc (small is.small));
   refused = λ told why is. absurd (cc is);
   away = λ refusal. absurd refusal;
-  ended = λ told enough.
-      (tt, Ended-no_disk g layout empty_store no_cost (with_opening empty_store (with_format no_cost)) (sink.frugal to) (source.left from) (sink.taken to) disk_old disk_new);
+  ended = λ told enough. inr (record { why = inl refl; source = refl; sink = refl; wrote = wrote });
   so = λ no. EndedSo-no_disk (source.left from) (sink.taken to);
   damage = tt;
 }
-DidFresh-unformatted source sink g layout from to disk_old disk_new recover_fault.OutOfMemory small untouched came = record {
+DidFresh-unformatted source sink g layout from to disk_old disk_new recover_fault.OutOfMemory small untouched came wrote = record {
   small = λ why is. absurd (cc (small is.small));
   refused = λ told why is. absurd (cc is);
   away = λ refusal. absurd refusal;
-  ended = λ told enough.
-      (tt, Ended-no_memory g layout empty_store no_cost (with_opening empty_store (with_format no_cost)) (sink.frugal to) (source.left from) (sink.taken to) disk_old disk_new);
+  ended = λ told enough. inr (record { why = inr refl; source = refl; sink = refl; wrote = wrote });
   so = λ no. EndedSo-no_memory (source.left from) (sink.taken to);
   damage = tt;
 }

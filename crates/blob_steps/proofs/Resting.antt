@@ -9,11 +9,10 @@ use Rattle.store_model.specs.Space.{Block}
 use Rattle.store_model.specs.Standing.{AllHeld, AllStand, BothStand, StandsFor}
 use Rattle.store_model.specs.State.{State}
 use Rattle.store_model.specs.Store.{Object, Store}
-use Rattle.store_model.specs.Survival.{ReadsAs}
+use Rattle.store_model.specs.Survival.{ReadsAs, RestsAs}
 use Rattle.store_model.proofs.SurvivalHeldLaws.{ReadsAs-standing}
 use Rattle.vault.specs.Leads.{IsLeadPage, StoreStands}
 use Rattle.vault.specs.Vaults.{found_of}
-use Rattle.blob_steps.specs.Runs.{RestsAt}
 use Rattle.blob_steps.specs.Steps.{IsWorld}
 use Rattle.blob_steps.specs.declared.world.World.{World}
 use Rattle.blob_steps.proofs.OwnedPages.{page-behind, page-front}
@@ -42,7 +41,8 @@ AllHeld-stand g mine store sound stands held key object is = record {
 
 -- The disk of a vault rests at the store that memory is at, where it holds its contents.
 pub rests-at : {D : Type 0} (g : Ghosts D) (mine : World D) (store : Store) → IsTrue g.tells → IsWorld g mine → StoreStands mine.vault.memory store
-    → AllHeld (g.story mine.vault.disk).reads mine.vault.memory.layout store.objects → RestsAt g mine.vault.memory.layout store mine.vault.disk
+    → AllHeld (g.story mine.vault.disk).reads mine.vault.memory.layout store.objects
+    → RestsAs (g.size mine.vault.disk) mine.vault.memory.layout store (g.story mine.vault.disk)
 rests-at g mine store told sound stands held =
     let rest = sound.vault.rest told sound.unshut in
     record {

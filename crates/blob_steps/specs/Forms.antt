@@ -1,11 +1,11 @@
 -- What each form of words does, and the run of a command line as a whole.
-use Rattle.std.specs.Prelude.{◌≡◌, ◌<◌, ◌≤◌, ◌↔◌, ◌⊎◌, ℕ, ⊤, IsTrue, List, Option, Some, None}
+use Rattle.std.specs.Prelude.{◌≡◌, ◌<◌, ◌≤◌, ◌↔◌, ◌⊎◌, ◌+◌, ℕ, ⊤, IsTrue, List, Option, Some, None}
 use Rattle.std.specs.FinMap.{empty}
 use Rattle.std.specs.Io.KnownBytes.{Appends}
 use Rattle.blob_base.specs.declared.faults.StoreRefusal.{StoreRefusal}
 use Rattle.blob_base.specs.declared.faults.StoreRefusal.TheVariants.{TooSmall}
 use Rattle.blob_report.specs.Ends.{TookFront}
-use Rattle.blob_report.specs.Reports.{Checked, IsAtWork, NamesDamage, Showed, StoreSurvives, TurnedAway}
+use Rattle.blob_report.specs.Reports.{Checked, CostsOpening, HasReported, IsAtWork, NamesDamage, Showed, StoreSurvives, TurnedAway}
 use Rattle.blob_script.specs.declared.form.Form as command
 use Rattle.blob_script.specs.declared.form.Form.TheVariants as command_form
 use Rattle.blob_script.specs.declared.status.Status.{Status}
@@ -14,7 +14,7 @@ use Rattle.disk_model.specs.Disks.{OnlyWrites}
 use Rattle.disk_model.specs.declared.disk.Disk as disk_trait
 use Rattle.io_ends.specs.declared.traits.Source as source_trait
 use Rattle.io_ends.specs.declared.traits.Sink as sink_trait
-use Rattle.recover.specs.Openings.{IsMetadata}
+use Rattle.recover.specs.Openings.{BeginsAt, IsMetadata}
 use Rattle.recover.specs.Turns.{IsTurnPage, found_by}
 use Rattle.blob_steps.specs.Breaks.{ComesTo, EndsAtBreak, IsBrokenGet}
 use Rattle.blob_steps.specs.Going.{IsAccepted}
@@ -22,6 +22,7 @@ use Rattle.blob_steps.specs.Known.{FoundKnown}
 use Rattle.blob_steps.specs.Runs.{Closed, Ended, EndedSo, IsRaised, KeepsEnds, counts_of}
 use Rattle.store_model.specs.Cost.{Cost, no_cost, with_format, with_opening}
 use Rattle.store_model.specs.Form.{Check, Form, Format, Fresh, IsForm, IsNoForm, Show, Steps}
+use Rattle.store_model.specs.Images.{time_of}
 use Rattle.store_model.specs.Layout.{Layout, data_page, total_pages}
 use Rattle.store_model.specs.Reading.{Found, Opened, Reads}
 use Rattle.store_model.specs.Report.{Damage, format_text}
@@ -81,10 +82,11 @@ pub record DidSteps {S K D : Type 0} (source : source_trait.Ghosts S) (sink : si
   pub refused : (why : StoreRefusal) → how ≡ status.Refused why → (source_new ≡ source_old) × TurnedAway disk why sink_old sink_new disk_old disk_new
   -- a script of which any line was run, or none was there, was run over a store
   pub opened : IsTrue disk.tells → IsOpened how → (found : Found) × Reads (disk.size disk_old) (disk.story disk_old).reads (Opened found)
-  -- over a whole store: which lines of the script were run, and what came of them
-  pub ended : IsTrue disk.tells → (layout : Layout) (start : Store)
-      → ReadsAs (disk.size disk_old) (disk.story disk_old).reads layout start.objects start.last
-      → IsAccepted how × Ended disk layout start cost (with_opening start cost) (sink.frugal sink_old) (source.left source_old)
+  -- Over a whole store: which lines of the script were run, and what came of them. It is told of the crashes since the return of the first
+  -- call, which is the opening's first sync, and since the start where nothing was pending.
+  pub ended : IsTrue disk.tells → (layout : Layout) (start : Store) (since : ℕ)
+      → ReadsAs (disk.size disk_old) (disk.story disk_old).reads layout start.objects start.last → BeginsAt disk disk_old since
+      → IsAccepted how × Ended disk layout start cost (with_opening start cost) since (sink.frugal sink_old) (source.left source_old)
       (sink.taken sink_old) (sink.taken sink_new) disk_old disk_new how
   -- Over any store: its contents may be damaged, but all else of its objects is known. A script that comes, before it commits a transaction,
   -- to a get of an object whose state doesn't verify ends at the first of those, with the first of that state's links that fails; or before,
@@ -97,6 +99,15 @@ pub record DidSteps {S K D : Type 0} (source : source_trait.Ghosts S) (sink : si
   pub so : (IsRefusal how → ⊥) → EndedSo (source.left source_old) (sink.taken sink_old) (sink.taken sink_new) how
   pub damage : IsDamageOfState how
 
+-- A format failed, since the disk did or there was no memory: nothing was read and nothing printed, and no page but those of a half and the
+-- selector may have been written. There was no store yet that could survive.
+pub record FailedFormat {S K D : Type 0} (disk : disk_trait.Ghosts D) (layout : Layout) (source_old : S) (sink_old : K) (disk_old : D) (how : Status)
+    (source_new : S) (sink_new : K) (disk_new : D) : Type 0 where
+  pub why : (how ≡ status.DiskFault) ⊎ (how ≡ status.OutOfMemory)
+  pub source : source_new ≡ source_old
+  pub sink : sink_new ≡ sink_old
+  pub wrote : OnlyWrites disk (IsTurnPage layout 0) disk_old disk_new
+
 -- A store of this layout was formatted, and a script was run over it.
 pub record DidFresh {S K D : Type 0} (source : source_trait.Ghosts S) (sink : sink_trait.Ghosts K) (disk : disk_trait.Ghosts D) (layout : Layout)
     (source_old : S) (sink_old : K) (disk_old : D) (how : Status) (source_new : S) (sink_new : K) (disk_new : D) : Type 0 where
@@ -106,10 +117,12 @@ pub record DidFresh {S K D : Type 0} (source : source_trait.Ghosts S) (sink : si
   -- and nowhere else, unless the disk doesn't read as what was written
   pub refused : IsTrue disk.tells → (why : StoreRefusal) → how ≡ status.Refused why → IsTooSmall layout (disk.size disk_old) why
   pub away : IsRefusal how → (source_new ≡ source_old) × (sink_new ≡ sink_old)
-  -- which lines of the script were run else, and what came of them
+  -- Which lines of the script were run else, and what came of them; or the format failed. It is told of the crashes since the return of the
+  -- sixth call, which is the opening's first sync behind the five of the format.
   pub ended : IsTrue disk.tells → total_pages layout ≤ disk.size disk_old
-      → IsAccepted how × Ended disk layout empty_store no_cost (with_opening empty_store (with_format no_cost)) (sink.frugal sink_old) (source.left source_old)
-      (sink.taken sink_old) (sink.taken sink_new) disk_old disk_new how
+      → (IsAccepted how × Ended disk layout empty_store no_cost (with_opening empty_store (with_format no_cost)) (time_of (disk.calls disk_old) + 6)
+      (sink.frugal sink_old) (source.left source_old) (sink.taken sink_old) (sink.taken sink_new) disk_old disk_new how)
+      ⊎ FailedFormat disk layout source_old sink_old disk_old how source_new sink_new disk_new
   -- whatever the disk tells
   pub so : (IsRefusal how → ⊥) → EndedSo (source.left source_old) (sink.taken sink_old) (sink.taken sink_new) how
   pub damage : IsDamageOfState how
@@ -124,6 +137,8 @@ pub record DidFormat {K D : Type 0} (sink : sink_trait.Ghosts K) (disk : disk_tr
   -- how many pages the layout takes was printed, all of it where it ended well
   pub front : TookFront (sink.taken sink_old) (sink.taken sink_new) (format_text layout)
   pub printed : how ≡ status.Done → Appends (sink.taken sink_old) (sink.taken sink_new) (format_text layout)
+  -- and none of it where the disk failed
+  pub unsaid : how ≡ status.DiskFault → sink_new ≡ sink_old
   -- the disk reads as the empty store then, and no other page than those of a half and the selector has changed, now or in a crash
   pub reads : IsTrue disk.tells → how ≡ status.Done → Reads (disk.size disk_old) (disk.story disk_new).reads (Opened (found_by layout 0 empty))
   pub wrote : OnlyWrites disk (IsTurnPage layout 0) disk_old disk_new
@@ -133,6 +148,8 @@ pub record DidFormat {K D : Type 0} (sink : sink_trait.Ghosts K) (disk : disk_tr
 pub record DidShow {K D : Type 0} (sink : sink_trait.Ghosts K) (disk : disk_trait.Ghosts D)
     (sink_old : K) (disk_old : D) (how : Status) (sink_new : K) (disk_new : D) : Type 0 where
   pub showed : Showed sink disk how sink_old sink_new disk_old disk_new
+  -- a report that was printed cost an opening
+  pub costs : HasReported how → CostsOpening disk disk_old disk_new
   pub wrote : OnlyWrites disk (IsMetadata (disk.size disk_old) (disk.story disk_old).reads) disk_old disk_new
   pub survives : StoreSurvives disk disk_old disk_new
 
@@ -141,6 +158,8 @@ pub record DidShow {K D : Type 0} (sink : sink_trait.Ghosts K) (disk : disk_trai
 pub record DidCheck {K D : Type 0} (sink : sink_trait.Ghosts K) (disk : disk_trait.Ghosts D)
     (sink_old : K) (disk_old : D) (how : Status) (sink_new : K) (disk_new : D) : Type 0 where
   pub checked : Checked sink disk how sink_old sink_new disk_old disk_new
+  -- a report that was printed cost an opening, but for reads
+  pub costs : HasReported how → CostsOpening disk disk_old disk_new
   pub named : NamesDamage disk how disk_old
   pub wrote : OnlyWrites disk (IsMetadata (disk.size disk_old) (disk.story disk_old).reads) disk_old disk_new
   pub survives : StoreSurvives disk disk_old disk_new

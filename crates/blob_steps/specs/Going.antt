@@ -1,5 +1,5 @@
 -- A run on the way, in the words of the definitions.
-use Rattle.std.specs.Prelude.{◌≡◌, ℕ, ⊤, IsTrue, List, ◌∷◌, ◌++◌, Option, Some, None}
+use Rattle.std.specs.Prelude.{◌≡◌, ℕ, ⊤, IsTrue, List, ◌∷◌, ◌++◌, length, Option, Some, None}
 use Rattle.std.specs.Io.KnownBytes.{Appends}
 use Rattle.blob_base.specs.Faults.{Rose}
 use Rattle.blob_base.specs.declared.faults.IoFault.TheVariants.{Failed, OutOfMemory}
@@ -20,7 +20,9 @@ use Rattle.store_model.specs.Play.{Played, PlayedLine, play, play_lines, store_b
 use Rattle.store_model.specs.Script.{Line, Malformed, lines_of, line_at}
 use Rattle.store_model.specs.Standing.{AllHeld}
 use Rattle.store_model.specs.Store.{Store}
+use Rattle.store_model.specs.Survival.{ReadsAs, SurvivesAll, groups_of, store_at}
 use Rattle.store_model.specs.World as model
+use Rattle.recover.specs.Openings.{LeavesFrom}
 use Rattle.vault.specs.Leads.{Costs}
 
 -- the first line that is left is this, for the line of this number
@@ -49,8 +51,8 @@ PlaysOn layout start lines number world first left =
     → (rest : List ℕ) × (left ≡ Some rest) × (after_lines lines (playing layout number world (lines_of rest)) ≡ play layout start script)
 
 -- A run on the way: it has run some lines and is at the world behind them, the sink took what they print, the disk has what
--- they made of it, and what is left of the script plays on to the whole.
-pub record Going {D : Type 0} (g : Ghosts D) (start : Store) (first_cost begun_cost : Cost) (mine : World D) (number : ℕ) (first left old new : Option (List ℕ)) (was : D) : Type 0 where
+-- they made of it, what is left of the script plays on to the whole, and their groups have survived each crash since a time.
+pub record Going {D : Type 0} (g : Ghosts D) (start : Store) (first_cost begun_cost : Cost) (since : ℕ) (mine : World D) (number : ℕ) (first left old new : Option (List ℕ)) (was : D) : Type 0 where
   pub world : model.World
   pub stands : WorldStands mine world
   pub lines : List PlayedLine
@@ -60,12 +62,18 @@ pub record Going {D : Type 0} (g : Ghosts D) (start : Store) (first_cost begun_c
   pub pages : IsTrue g.tells → PagesAre g mine.vault.memory.layout start lines was mine.vault.disk
   pub counts : Costs g first_cost (with_lines start lines begun_cost) was mine.vault.disk mine.vault.memory
   pub plays_on : PlaysOn mine.vault.memory.layout start lines number world first left
+  pub behind : store_at start (groups_of lines) (length (groups_of lines)) ≡ store_behind start lines
+  pub survives : IsTrue g.tells
+      → SurvivesAll (g.size mine.vault.disk) mine.vault.memory.layout start (groups_of lines) since (length (groups_of lines)) (g.story mine.vault.disk)
 
--- A run of this world begins over a store: memory is at it and the disk holds its contents, where it tells its pages, at this cost.
-pub record StartsOn {D : Type 0} (g : Ghosts D) (start : Store) (cost : Cost) (mine : World D) : Type 0 where
+-- A run of this world begins over a store: memory is at it and the disk holds its contents, where it tells its pages, at this cost; and
+-- whatever a crash left since a time reads as it.
+pub record StartsOn {D : Type 0} (g : Ghosts D) (start : Store) (cost : Cost) (since : ℕ) (mine : World D) : Type 0 where
   pub stands : WorldStands mine (model.world_over start)
   pub held : IsTrue g.tells → AllHeld (g.story mine.vault.disk).reads mine.vault.memory.layout start.objects
   pub gate : mine.vault.memory.log.gate ≡ cost.gate
+  pub survives : IsTrue g.tells
+      → LeavesFrom g (λ image. ReadsAs (g.size mine.vault.disk) image mine.vault.memory.layout start.objects start.last) since mine.vault.disk
 
 -- What is left of a known script ends as the whole does, whatever the store.
 abbrev pub EndsOn : ℕ → Option (List ℕ) → Option (List ℕ) → Type 0

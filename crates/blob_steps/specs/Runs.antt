@@ -1,5 +1,5 @@
 -- Runs of scripts, and what runs leave their ends with, in the words of the definitions.
-use Rattle.std.specs.Prelude.{◌≡◌, ℕ, ◌⊎◌, ⊤, Bool, false, IsTrue, List, ◌++◌, Option, Some}
+use Rattle.std.specs.Prelude.{◌≡◌, ℕ, ◌≤◌, ◌⊎◌, ⊤, Bool, false, IsTrue, List, ◌++◌, length, Option, Some}
 use Rattle.std.specs.FinMap.{FinMap}
 use Rattle.std.specs.Io.KnownBytes.{Appends}
 use Rattle.blob_base.specs.Faults.{KeepsEnd, Rose}
@@ -13,13 +13,14 @@ use Rattle.blob_script.specs.declared.status.Status.TheVariants as status
 use Rattle.blob_script.specs.Endings.{ending_of}
 use Rattle.store_model.specs.Closing.{closing_text}
 use Rattle.store_model.specs.Cost.{Cost, Spent, with_lines}
-use Rattle.store_model.specs.Images.{Settled, Wrote}
+use Rattle.store_model.specs.Endures.{Endures, IsUnderWay}
+use Rattle.store_model.specs.Images.{Wrote}
 use Rattle.store_model.specs.Key.{key_order}
 use Rattle.store_model.specs.Layout.{Layout}
 use Rattle.store_model.specs.Play.{AtInputEnd, AtMalformed, AtUnbuilt, End, Played, PlayedLine, play, store_behind, taken_in, text_of}
 use Rattle.store_model.specs.Standing.{AllStand, IsDamaged}
 use Rattle.store_model.specs.Store.{Object, Store}
-use Rattle.store_model.specs.Survival.{ReadsAs}
+use Rattle.store_model.specs.Survival.{Group, RestsAs}
 use Rattle.vault.specs.Leads.{IsLeadPage}
 
 -- how often each of the three ends has failed
@@ -51,6 +52,16 @@ OnPlayed status.Done P = P
 OnPlayed (status.Malformed line) P = P
 OnPlayed (status.NotBuilt line) P = P
 OnPlayed _ P = ⊤
+
+-- a status after which the disk rests: no call of the vault has failed
+abbrev pub OnResting : Status → Type 0 → Type 0
+OnResting status.Done P = P
+OnResting (status.Malformed line) P = P
+OnResting (status.NotBuilt line) P = P
+OnResting status.ReadFault P = P
+OnResting status.WriteFault P = P
+OnResting (status.Damaged key link want got) P = P
+OnResting _ P = ⊤
 
 -- These lines of a play were run: all of them where the run came to the end that the play has, and else the first ones.
 abbrev pub Ran : Status → List PlayedLine → Played → Type 0
@@ -89,10 +100,13 @@ pub record PagesAre {D : Type 0} (g : disk_trait.Ghosts D) (layout : Layout) (st
   pub objects : AllStand start.last (g.story new).reads layout (store_behind start lines).objects
   pub others : Wrote (IsLeadPage layout (taken_in lines)) (g.story old) (g.story new)
 
--- A disk reads as a store, with all its contents, and a crash leaves just that.
-pub record RestsAt {D : Type 0} (g : disk_trait.Ghosts D) (layout : Layout) (store : Store) (disk : D) : Type 0 where
-  pub reads : ReadsAs (g.size disk) (g.story disk).reads layout store.objects store.last
-  pub settled : Settled (g.story disk)
+-- What survives each crash of a run that came behind these lines, since a time: their groups, with at most a part of the group of one more,
+-- which is the script's next. Or no line was run, and the time hadn't come.
+pub record RunSurvives {D : Type 0} (g : disk_trait.Ghosts D) (layout : Layout) (start : Store) (script : Option (List ℕ)) (lines : List PlayedLine) (since : ℕ) (now : D) : Type 0 where
+  pub under_way : List Group
+  pub few : length under_way ≤ 1
+  pub next : (text : List ℕ) → script ≡ Some text → IsUnderWay layout start text lines under_way
+  pub survives : IsTrue g.tells → Endures (g.size now) layout start lines under_way since (g.story now)
 
 -- what each of the three ends keeps
 pub record KeepsEnds {S K D : Type 0} (source : source_trait.Ghosts S) (sink : sink_trait.Ghosts K) (disk : disk_trait.Ghosts D)
@@ -106,15 +120,16 @@ abbrev pub counts_of : {S K D : Type 0} → source_trait.Ghosts S → sink_trait
 counts_of source sink disk from to on = record { source = source.faults from; sink = sink.faults to; disk = disk.faults on }
 
 -- How the run of a script that began with this store ended, up to the closing line: which lines were run, and what came of them. The disk
--- had the cost `first` as it was, and `begun` where the first line began.
-pub record Ended {D : Type 0} (g : disk_trait.Ghosts D) (layout : Layout) (start : Store) (first begun : Cost) (frugal : Bool) (script old new : Option (List ℕ))
+-- had the cost `first` as it was, and `begun` where the first line began. Of its crashes those since a time are told.
+pub record Ended {D : Type 0} (g : disk_trait.Ghosts D) (layout : Layout) (start : Store) (first begun : Cost) (since : ℕ) (frugal : Bool) (script old new : Option (List ℕ))
     (was now : D) (status : Status) : Type 0 where
   pub lines : List PlayedLine
   pub ran : (text : List ℕ) → script ≡ Some text → Ran status lines (play layout start text)
   pub grew : Grew old new
   pub took : IsTrue g.tells → TookLines status frugal old new lines
   pub pages : IsTrue g.tells → OnPlayed status (PagesAre g layout start lines was now)
-  pub rests : IsTrue g.tells → OnPlayed status (RestsAt g layout (store_behind start lines) now)
+  pub crashes : RunSurvives g layout start script lines since now
+  pub rests : IsTrue g.tells → OnResting status (RestsAs (g.size now) layout (store_behind start lines) (g.story now))
   pub counts : IsTrue g.tells → OnPlayed status (Spent first (with_lines start lines begun) (g.calls was) (g.calls now))
   pub damage : ShowsDamage status (store_behind start lines).objects
   pub whole : IsTrue g.tells → IsUndamaged status

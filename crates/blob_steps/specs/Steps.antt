@@ -1,5 +1,5 @@
 -- What a step does to the program's world, in the words of the definitions.
-use Rattle.std.specs.Prelude.{◌≡◌, ◌≢◌, ◌==◌, ℕ, ◌+◌, ◌<◌, ◌≤◌, Bool, true, false, IsTrue, List, [], length, map, take, zip, slice_get, Some, None, Result, OnOk, IfErr}
+use Rattle.std.specs.Prelude.{◌≡◌, ◌≢◌, ◌==◌, ℕ, ◌+◌, ◌<◌, ◌≤◌, Bool, true, false, IsTrue, List, [], length, map, take, zip, slice_get, Option, Some, None, Result, OnOk, IfErr}
 use Rattle.std.specs.List.{flat_map, list_any, slice_set as set}
 use Rattle.group_plan.specs.Plans.{model_reply}
 use Rattle.group_plan.specs.declared.plan.Reply.{Reply as ReplyTo}
@@ -20,12 +20,13 @@ use Rattle.blob_steps.specs.declared.world.Played.TheVariants as played
 use Rattle.blob_steps.specs.declared.world.World.{World}
 use Rattle.store_model.specs.Answer as answer
 use Rattle.store_model.specs.Cost.{Cost, with_line}
-use Rattle.store_model.specs.Images.{Wrote}
+use Rattle.store_model.specs.Images.{LeavesOnly, Wrote}
 use Rattle.store_model.specs.Layout.{data_page}
 use Rattle.store_model.specs.Play.{step_play, turned}
 use Rattle.store_model.specs.Script.{Step}
 use Rattle.store_model.specs.Standing.{AllHeld, AllStand}
 use Rattle.store_model.specs.Store.{Store}
+use Rattle.store_model.specs.Survival.{Group, Survives, groups_by}
 use Rattle.store_model.specs.Turn as turn
 use Rattle.store_model.specs.World as model
 use Rattle.store_model.specs.World.{Outcome}
@@ -154,6 +155,20 @@ pub record Stepped {D T : Type 0} (g : Ghosts D) (mine later : World D) (result 
   pub damage : (world : model.World) → WorldStands mine world → IfErr result (ShowsDamageFault world.store.objects)
   pub whole : IsTrue g.tells → (world : model.World) → WorldStands mine world
       → AllHeld (g.story mine.vault.disk).reads mine.vault.memory.layout world.store.objects → IfErr result IsUndamagedFault
+
+-- the group of a step with this outcome, where it has one and committed something
+abbrev pub groups_in : Option Outcome → List Group
+groups_in None = []
+groups_in (Some outcome) = groups_by outcome.commits outcome.world.store
+
+-- At whatever moment of a step the disk stopped, and whether the step had an answer or not, a crash leaves the store that the world had,
+-- with all its contents, or that one with a part of the step's group.
+abbrev pub StepSurvives : {D : Type 0} → Ghosts D → Step → World D → World D → Type 0
+StepSurvives g step mine later =
+    IsTrue g.tells → (world : model.World) → WorldStands mine world
+    → AllHeld (g.story mine.vault.disk).reads mine.vault.memory.layout world.store.objects
+    → LeavesOnly (λ image. Survives (g.size mine.vault.disk) image mine.vault.memory.layout world.store
+    (groups_in (step_play mine.vault.memory.layout world step)) 0) (g.story mine.vault.disk) (g.story later.vault.disk)
 
 -- the text of replies to the sessions of these numbers
 abbrev pub replies_text : List ℕ → List ReplyTo → List ℕ

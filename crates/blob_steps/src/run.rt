@@ -16,14 +16,16 @@ ghost use Rattle.store_model.specs.State.{State};
 ghost use Rattle.store_model.specs.World.{World as ModelWorld, world_over};
 ghost use Rattle.store_model.specs.Standing.{AllHeld};
 ghost use Rattle.store_model.specs.Store.{Store as ModelStore};
+ghost use Rattle.store_model.specs.Survival.{ReadsAs};
 ghost use Rattle.blob_script.specs.Words.{IsSession, model_step};
 ghost use Rattle.blob_steps.specs.Breaks.{ComesTo, ComingTo, EndsAtBreak, EndsBreaking, IsBrokenGet, NeverBreaks};
 ghost use Rattle.blob_steps.specs.Known.{StoreKnown};
 ghost use Rattle.blob_steps.specs.Forms.{DidFresh, DidSteps, IsDamageOfState};
-ghost use Rattle.blob_steps.specs.Steps.{DoesFollow, DoesPlay, HaveBegun, IsWorld, WorldKnown, WorldStands};
+ghost use Rattle.blob_steps.specs.Steps.{DoesFollow, DoesPlay, HaveBegun, IsWorld, StepSurvives, WorldKnown, WorldStands};
 ghost use Rattle.blob_steps.specs.Runs.{Ended, EndedSo, IsRaised, IsUndamaged, KeepsEnds, ShowsDamage, counts_of};
 ghost use Rattle.blob_steps.specs.Going.{EndsReading, EndsStep, Going, GoingSo, IsAccepted, IsRunning, StartsOn, reading_ending, step_ending};
 ghost use Rattle.blob_steps.specs.Nexts.{HasSession, IsAlways, IsLine, IsNeverBuilt, IsNext, IsUnbuilt, TellsLine, next_line};
+ghost use Rattle.recover.specs.Openings.{LeavesFrom};
 ghost use Rattle.vault.specs.Leads.{StoreStands};
 ghost use Rattle.vault.specs.Vaults.{IsVault};
 
@@ -44,7 +46,7 @@ const MAX_LINES: u64 = 1_000_000;
 
 // A run on the way.
 #[derive(Drop)]
-struct Run<D> {
+struct Run<D: Disk> {
     reader: LineReader,
     world: World<D>,
     line: Bytes,
@@ -121,6 +123,7 @@ impl<D: Disk> Run<D> {
         ensures begun { (n : ℕ) → HaveBegun n self.old.world → OnOk result (HaveBegun (n + 1) self.new.world) }
         ensures reader { self.new.reader ≡ self.old.reader }
         ensures layout { self.new.world.vault.memory.layout ≡ self.old.world.vault.memory.layout }
+        ensures survives { StepSurvives D.Disk (model_step step) self.old.world self.new.world }
         ensures keeps { Keeps D.Disk self.old.world.vault.disk self.new.world.vault.disk }
         ensures ends { IfErr result (λ status. EndsStep status (D.faults self.old.world.vault.disk) (D.faults self.new.world.vault.disk)) }
     {
@@ -142,16 +145,16 @@ impl<D: Disk> Run<D> {
     ) -> Result<bool, Status>
         requires sound { IsWorld D.Disk self.old.world }
         requires begun { HaveBegun (2 ^ 61) self.old.world }
-        ensures going { (start : ModelStore) (before begun : Cost) (first old : Option (List ℕ)) (was : _)
-            → Going D.Disk start before begun self.old.world number first (prepend_known self.old.reader (S.left source.old)) old
+        ensures going { (start : ModelStore) (before begun : Cost) (since : ℕ) (first old : Option (List ℕ)) (was : _)
+            → Going D.Disk start before begun since self.old.world number first (prepend_known self.old.reader (S.left source.old)) old
             (K.taken sink.old) was
             → MatchResult result
             (λ more. MatchBool more
-            (Going D.Disk start before begun self.new.world (number + 1) first (prepend_known self.new.reader (S.left source.new)) old
+            (Going D.Disk start before begun since self.new.world (number + 1) first (prepend_known self.new.reader (S.left source.new)) old
             (K.taken sink.new) was)
-            (Ended D.Disk self.old.world.vault.memory.layout start before begun (K.frugal sink.old) first old (K.taken sink.new) was
+            (Ended D.Disk self.old.world.vault.memory.layout start before begun since (K.frugal sink.old) first old (K.taken sink.new) was
             self.new.world.vault.disk Status.Done))
-            (λ status. Ended D.Disk self.old.world.vault.memory.layout start before begun (K.frugal sink.old) first old (K.taken sink.new) was
+            (λ status. Ended D.Disk self.old.world.vault.memory.layout start before begun since (K.frugal sink.old) first old (K.taken sink.new) was
             self.new.world.vault.disk status) }
         ensures so { (first old : Option (List ℕ))
             → GoingSo number first (prepend_known self.old.reader (S.left source.old)) old (K.taken sink.old)
@@ -200,11 +203,11 @@ impl<D: Disk> Run<D> {
         requires sound { IsWorld D.Disk self.old.world }
         requires begun { HaveBegun 0 self.old.world }
         requires none { self.old.reader ≡ [] }
-        ensures ended { (start : ModelStore) (cost : Cost) → StartsOn D.Disk start cost self.old.world
+        ensures ended { (start : ModelStore) (cost : Cost) (since : ℕ) → StartsOn D.Disk start cost since self.old.world
             → MatchResult result
-            (λ _. Ended D.Disk self.old.world.vault.memory.layout start cost cost (K.frugal sink.old) (S.left source.old)
+            (λ _. Ended D.Disk self.old.world.vault.memory.layout start cost cost since (K.frugal sink.old) (S.left source.old)
             (K.taken sink.old) (K.taken sink.new) self.old.world.vault.disk self.new.world.vault.disk Status.Done)
-            (λ status. Ended D.Disk self.old.world.vault.memory.layout start cost cost (K.frugal sink.old) (S.left source.old)
+            (λ status. Ended D.Disk self.old.world.vault.memory.layout start cost cost since (K.frugal sink.old) (S.left source.old)
             (K.taken sink.old) (K.taken sink.new) self.old.world.vault.disk self.new.world.vault.disk status) }
         ensures so { MatchResult result
             (λ _. EndedSo (S.left source.old) (K.taken sink.old) (K.taken sink.new) Status.Done)
@@ -305,9 +308,10 @@ fn run_script<S: Source, K: Sink, D: Disk>(
 ) -> (Status, D)
     requires vault { IsVault D.Disk vault.disk vault.memory vault.shut }
     requires open { vault.shut ≡ None }
-    ensures ended { (start : ModelStore) (cost : Cost) → StoreStands vault.memory start → cost.gate ≡ vault.memory.log.gate
+    ensures ended { (start : ModelStore) (cost : Cost) (since : ℕ) → StoreStands vault.memory start → cost.gate ≡ vault.memory.log.gate
         → (IsTrue D.tells → AllHeld (D.story vault.disk).reads vault.memory.layout start.objects)
-        → Ended D.Disk vault.memory.layout start cost cost (K.frugal sink.old) (S.left source.old) (K.taken sink.old) (K.taken sink.new)
+        → (IsTrue D.tells → LeavesFrom D.Disk (λ image. ReadsAs (D.size vault.disk) image vault.memory.layout start.objects start.last) since vault.disk)
+        → Ended D.Disk vault.memory.layout start cost cost since (K.frugal sink.old) (S.left source.old) (K.taken sink.old) (K.taken sink.new)
         vault.disk result.1 result.0 }
     ensures breaks { IsTrue D.tells → (image : Image) (start : ModelStore) (script : List ℕ) (one : Damage) → StoreKnown vault.memory start
         → ((at : ℕ) → (D.story vault.disk).reads (data_page vault.memory.layout + at) ≡ image (data_page vault.memory.layout + at))

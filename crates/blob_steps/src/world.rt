@@ -5,6 +5,7 @@ ghost use Rattle.std.specs.List.{All};
 ghost use Rattle.blob_script.specs.Answers.{model_line};
 ghost use Rattle.blob_script.specs.Contents.{content_bytes};
 ghost use Rattle.blob_script.specs.Words.{IsSession, model_action, model_step};
+ghost use Rattle.disk_model.specs.Disks.{OnlyReads};
 ghost use Rattle.group_plan.specs.Plans.{model_reply};
 ghost use Rattle.store_model.specs.Answer.{Session as SessionAnswer, answer_text};
 ghost use Rattle.store_model.specs.Group.{Member, reply_of};
@@ -22,7 +23,7 @@ ghost use Rattle.blob_steps.specs.Looks.{show_of};
 ghost use Rattle.blob_steps.specs.declared.session.Looked.TheVariants as Looked;
 ghost use Rattle.blob_steps.specs.Nexts.{IsAlways};
 ghost use Rattle.blob_steps.specs.Sessions.{HasLooked, HasTurned, IsPut, look_action};
-ghost use Rattle.blob_steps.specs.Steps.{AreNew, CameTo, DoesFollow, DoesPlay, Follows, HaveBegun, IsWorld, LeavesFree, Replying, Stepped, TakesTurn, WorldKnown, WorldStands, replies_text};
+ghost use Rattle.blob_steps.specs.Steps.{AreNew, CameTo, DoesFollow, DoesPlay, Follows, HaveBegun, IsWorld, LeavesFree, Replying, StepSurvives, Stepped, TakesTurn, WorldKnown, WorldStands, replies_text};
 ghost use Rattle.vault.specs.Leads.{StoreStands};
 ghost use Rattle.vault.specs.Vaults.{IsVault};
 
@@ -42,7 +43,7 @@ const SESSIONS: usize = 16;
 
 /// The vault of a run, its sessions by their numbers, and the requests in its queue.
 #[derive(Drop)]
-pub(crate) struct World<D> {
+pub(crate) struct World<D: Disk> {
     pub(crate) vault: Vault<D>,
     pub(crate) sessions: Vec<Session>,
     pub(crate) queue: Queue,
@@ -186,6 +187,7 @@ impl<D: Disk> World<D> {
         ensures breaks { IsTrue D.tells → (world : ModelWorld) → WorldKnown self.old world
             → MatchResult result (λ _. NeverBreaks D.Disk self.old world (model_step step)) (BreaksFault D.Disk self.old world (model_step step)) }
         ensures stepped { Stepped D.Disk self.old self.new result }
+        ensures survives { StepSurvives D.Disk (model_step step) self.old self.new }
     {
         match step {
             Step::Session { session, action } => self.turn(alloc, session, action, text),
@@ -221,6 +223,7 @@ impl<D: Disk> World<D> {
             → MatchResult result (λ _. NeverBreaks D.Disk self.old world (script.Session session (model_action action)))
             (BreaksFault D.Disk self.old world (script.Session session (model_action action))) }
         ensures stepped { Stepped D.Disk self.old self.new result }
+        ensures only_reads { OnlyReads D.Disk self.old.vault.disk self.new.vault.disk }
     {
         let line = match action {
             Action::Begin => self.begin(alloc, session),
@@ -330,6 +333,7 @@ impl<D: Disk> World<D> {
             → MatchResult result (λ _. NeverBreaks D.Disk self.old world (script.Session session (script.Transact (look_action look key.now))))
             (BreaksFault D.Disk self.old world (script.Session session (script.Transact (look_action look key.now)))) }
         ensures stepped { Stepped D.Disk self.old self.new result }
+        ensures only_reads { OnlyReads D.Disk self.old.vault.disk self.new.vault.disk }
     {
         let line = match find(&self.vault, &mut self.sessions, session, key)? {
             Looked::Line { line } => line,
@@ -385,6 +389,7 @@ impl<D: Disk> World<D> {
         ensures follows { (world : ModelWorld) → WorldKnown self.old world → OnOk result (Follows D.Disk world self.old self.new) }
         ensures undamaged { IfErr result IsUndamagedFault }
         ensures stepped { Stepped D.Disk self.old self.new result }
+        ensures survives { StepSurvives D.Disk script.Checkpoint self.old self.new }
     {
         self.vault.turn()?;
         Answer::Checkpointed.print(alloc, text)?;
@@ -401,6 +406,7 @@ impl<D: Disk> World<D> {
             → OnOk result (Follows D.Disk (lead self.old.vault.memory.layout world).world self.old self.new) }
         ensures undamaged { IfErr result IsUndamagedFault }
         ensures stepped { Stepped D.Disk self.old self.new result }
+        ensures survives { StepSurvives D.Disk script.Lead self.old self.new }
     {
         if self.queue.is_empty() {
             Answer::Idle.print(alloc, text)?;

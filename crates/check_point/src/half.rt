@@ -1,6 +1,6 @@
 // A half that is written anew.
 
-ghost use Rattle.std.specs.Prelude.{◌≡◌, ℕ, ◌+◌, ◌-◌, ◌*◌, ◌/◌, ◌<◌, ◌≤◌, List, [], ◌∷◌, ◌++◌, length, IsTrue, OnOk};
+ghost use Rattle.std.specs.Prelude.{◌≡◌, ℕ, ◌+◌, ◌-◌, ◌*◌, ◌/◌, ◌<◌, ◌≤◌, List, [], ◌∷◌, ◌++◌, length, IsTrue, OnErr, OnOk};
 ghost use Rattle.std.specs.FinMap.{FinMap, entries};
 ghost use Rattle.disk_model.specs.Disks.{Caused, OnlyWrites};
 ghost use Rattle.store_model.specs.Disk.{Took, area_of, page_bytes, page_of, zero_page};
@@ -60,8 +60,8 @@ impl HalfWriter {
         }
     }
 
-    /// Takes a tuple, and writes each page that is full then. After a fault some of these pages may have been written, and
-    /// the last of them may read as any bytes.
+    /// Takes a tuple, and writes each page that is full then. After a fault some of these pages may have been written, the
+    /// last of them may read as any bytes, and the writer is as before.
     pub fn put<D: Disk>(
         &mut self,
         disk: &mut D,
@@ -80,7 +80,8 @@ impl HalfWriter {
             → OnOk result (Stand (states_page self.old.layout self.old.half) (self.new.taken / page_bytes)
             (spelled (tuples ++ (key.now, state.now) ∷ [])) (D.story disk.new).reads) }
 
-        // What else the writer has is kept.
+        // What else the writer has is kept, and after a fault all that it has.
+        ensures untaken { OnErr result (self.new ≡ self.old) }
         ensures layout { self.new.layout ≡ self.old.layout }
         ensures half { self.new.half ≡ self.old.half }
         ensures last { self.new.last ≡ self.old.last }
@@ -95,13 +96,15 @@ impl HalfWriter {
         let length = state.encoded(key);
         let bytes = &mut buffer[..length];
         encode_into(key, state, bytes);
+        let mut page = self.page;
         append(
             disk,
             self.layout.states(self.half),
             self.taken,
-            &mut self.page,
+            &mut page,
             bytes,
         )?;
+        self.page = page;
         self.taken += length as u32;
         self.count += 1;
         Ok(())

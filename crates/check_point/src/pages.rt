@@ -1,8 +1,8 @@
 // Pages that are filled, and written where they are full.
 
-ghost use Rattle.std.specs.Prelude.{◌≡◌, ◌+◌, ◌-◌, ◌*◌, ◌/◌, ◌%◌, ◌^◌, ◌<◌, ◌≤◌, List, ℕ, ◌++◌, length, IsTrue, OnOk};
+ghost use Rattle.std.specs.Prelude.{◌≡◌, ◌+◌, ◌-◌, ◌/◌, ◌%◌, ◌^◌, ◌<◌, ◌≤◌, List, ℕ, ◌++◌, length, IsTrue, OnOk};
 ghost use Rattle.disk_model.specs.Disks.{Caused, OnlyWrites};
-ghost use Rattle.store_model.specs.Disk.{Took, page_bytes, page_of};
+ghost use Rattle.store_model.specs.Disk.{Took, page_bytes};
 ghost use Rattle.store_model.specs.Images.{Within};
 ghost use Rattle.store_model.specs.Log.{body_page, body_pages};
 ghost use Rattle.check_point.specs.Halves.{Ends, Stand, filled_pages};

@@ -1,6 +1,6 @@
 // Reading a half.
 
-ghost use Rattle.std.specs.Prelude.{◌≡◌, ◌+◌, ◌*◌, ◌≤◌, ◌<◌, List, ℕ, length, take, IsTrue, IfOk, IfErr, OnOk};
+ghost use Rattle.std.specs.Prelude.{◌≡◌, ◌+◌, ◌*◌, ◌≤◌, ◌<◌, length, take, IsTrue, IfOk, IfErr, OnOk};
 ghost use Rattle.disk_model.specs.Disks.{OnlyReads};
 ghost use Rattle.disk_model.specs.Readings.{FailedFrom};
 ghost use Rattle.store_model.specs.Disk.{Took, area_of, page_bytes};

@@ -1,6 +1,6 @@
 // The selector, page 0: which half counts.
 
-ghost use Rattle.std.specs.Prelude.{◌≡◌, ℕ, ◌<◌, ◌≤◌, IsTrue, IfOk, OnOk};
+ghost use Rattle.std.specs.Prelude.{◌≡◌, ◌<◌, ◌≤◌, IsTrue, IfOk, OnOk};
 ghost use Rattle.disk_model.specs.Disks.{Caused, OnlyReads, OnlyWrites};
 ghost use Rattle.store_model.specs.Disk.{Took};
 ghost use Rattle.store_model.specs.Half.{picked};

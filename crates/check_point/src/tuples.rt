@@ -1,6 +1,6 @@
 // The tuples of a half, read back.
 
-ghost use Rattle.std.specs.Prelude.{◌≡◌, ◌+◌, ◌^◌, ◌<◌, ◌≤◌, ◌++◌, ◌∷◌, [], List, ℕ, length, IsTrue, IfOk, IfErr, OnOk};
+ghost use Rattle.std.specs.Prelude.{◌≡◌, ◌^◌, ◌≤◌, ◌++◌, ◌∷◌, [], length, IsTrue, IfOk, IfErr, OnOk};
 ghost use Rattle.store_model.specs.HalfRefusals.{AreTuples, may_follow, rules_behind, tuples_bytes};
 ghost use Rattle.store_model.specs.State.{greatest_number};
 ghost use Rattle.store_model.specs.Tuple.{IsAtFront, spelling};

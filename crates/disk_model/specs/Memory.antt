@@ -1,6 +1,6 @@
 -- What a disk in memory tells.
-use Rattle.std.specs.Prelude.{ℕ, ◌+◌, ◌≡◌, ◌↔◌, Bool, false, Contains, IsErrOf, Result, take}
-use Rattle.blob_base.specs.Faults.{OnMade}
+use Rattle.std.specs.Prelude.{ℕ, ◌+◌, ◌-◌, ◌^◌, ◌≡◌, ◌↔◌, min, Bool, false, Contains, IsErrOf, OnOk, Result, take}
+use Rattle.blob_base.specs.Faults.{OnFailed, OnMade, OnNoMemory}
 use Rattle.blob_base.specs.declared.faults.IoFault.{IoFault}
 use Rattle.blob_base.specs.declared.faults.IoFault.TheVariants.{Failed}
 use Rattle.disk_model.specs.declared.memory.MemDisk.{MemDisk}
@@ -33,8 +33,11 @@ disk_size disk = disk.size
 abbrev pub disk_frugal : MemDisk → Bool
 disk_frugal disk = false
 
--- A call that was made failed exactly where its number, counted from 1, is one of those that were chosen, and the choice is
--- kept.
+-- A call that was made failed exactly where its number, counted from 1, is one of those that were chosen, and the count of
+-- faults rose by one then and stayed else. The choice is kept.
 pub record AsChosen {T : Type 0} (old new : MemDisk) (result : Result T IoFault) : Type 0 where
   pub failed : OnMade result (IsErrOf result Failed ↔ Contains old.fails ((disk_story old).time + 1))
+  pub faulted : OnFailed result (disk_faults new ≡ min (disk_faults old + 1) (2 ^ 64 - 1))
+  pub faultless : OnOk result (disk_faults new ≡ disk_faults old)
+  pub unmade : OnNoMemory result (disk_faults new ≡ disk_faults old)
   pub kept : new.fails ≡ old.fails

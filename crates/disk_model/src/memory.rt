@@ -1,13 +1,13 @@
 // A disk in memory.
 
-ghost use Rattle.std.specs.Prelude.{◌≡◌, ℕ, ◌+◌, ◌-◌, ◌^◌, ◌<◌, ◌≤◌, ◌↔◌, min, Bool, true, false, IsTrue, [], ◌∷◌, ◌++◌, length, take, OnOk, OnErr, IfOk, IfErr};
+ghost use Rattle.std.specs.Prelude.{◌≡◌, ◌+◌, ◌-◌, ◌^◌, ◌<◌, ◌≤◌, ◌↔◌, min, true, false, IsTrue, [], ◌∷◌, ◌++◌, length, take, OnOk, IfOk, IfErr};
 ghost use Rattle.std.specs.List.{Contains};
 ghost use Rattle.blob_base.specs.Faults.{CameFrom, HasCause, OnMade, OnFailed, OnNoMemory};
 ghost use Rattle.disk_model.specs.Frame.{Counted, KeepsDisk};
 ghost use Rattle.disk_model.specs.Calls.{calls_of, image_of, are_pending, crashed};
 ghost use Rattle.disk_model.specs.Stories.{story_of};
 ghost use Rattle.store_model.specs.Disk.{zero_page};
-ghost use Rattle.store_model.specs.Images.{Settled, MayLeave};
+ghost use Rattle.store_model.specs.Images.{Settled};
 
 use crate::call::{Call, Pick, Written};
 use crate::record::{
@@ -169,6 +169,8 @@ impl MemDisk {
         ensures start { self.new.start ≡ self.old.start }
         ensures size { self.new.size ≡ self.old.size }
         ensures fails { self.new.fails ≡ self.old.fails }
+        ensures faulted { OnFailed result (self.new.faults ≡ min (self.old.faults + 1) (2 ^ 64 - 1)) }
+        ensures faultless { OnOk result (self.new.faults ≡ self.old.faults) }
         ensures faults { self.old.faults ≤ self.new.faults }
         ensures raised { OnNoMemory result (self.new.faults ≡ self.old.faults) }
         ensures cause { IfErr result (λ e. CameFrom e self.old.faults self.new.faults false) }

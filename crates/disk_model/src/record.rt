@@ -1,7 +1,7 @@
 // What the record of a disk in memory says.
 
-ghost use Rattle.std.specs.Prelude.{◌≡◌, ◌≤◌, Bool, true, false, fold, length, take, count_by, MatchOption, OnOk};
-ghost use Rattle.disk_model.specs.Calls.{Replay, is_read, is_write, is_sync, image_of, image_after, with_written, with_picks, settled, replay_calls};
+ghost use Rattle.std.specs.Prelude.{◌≡◌, ◌≤◌, fold, length, take, count_by, MatchOption, OnOk};
+ghost use Rattle.disk_model.specs.Calls.{is_read, is_write, is_sync, image_of, image_after, with_written, with_picks, settled, replay_calls};
 ghost use Rattle.store_model.specs.Disk.{Image, with_page, zero_page};
 
 use crate::Page;

@@ -1,4 +1,5 @@
 pub mod Pages
+pub mod ReadBytes
 pub use Rattle.blob_base.specs.Faults
 pub use Rattle.store_model.specs.Disk
 pub use Rattle.store_model.specs.Holds

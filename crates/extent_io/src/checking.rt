@@ -1,6 +1,6 @@
 // Verifying a content that is in memory, link by link.
 
-ghost use Rattle.std.specs.Prelude.{◌≡◌, ℕ, ◌+◌, ◌*◌, ◌≤◌, List, length};
+ghost use Rattle.std.specs.Prelude.{◌≡◌, ℕ, ◌+◌, ◌≤◌, List, length};
 ghost use Rattle.store_model.specs.Verify.{FailsFirst, LeadsTo, given};
 ghost use Rattle.extent_io.specs.Pages.{part_begin};
 ghost use Rattle.extent_io.specs.declared.verdict.Verdict.TheVariants.{Damaged, Whole};

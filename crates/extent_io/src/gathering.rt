@@ -1,6 +1,6 @@
 // Reading bytes of a content.
 
-ghost use Rattle.std.specs.Prelude.{◌≡◌, ℕ, ◌+◌, ◌-◌, ◌*◌, ◌/◌, ◌%◌, ◌<◌, ◌≤◌, List, length, take, drop, min, IsTrue, IfOk, OnOk, IfErr};
+ghost use Rattle.std.specs.Prelude.{◌≡◌, ℕ, ◌+◌, ◌-◌, ◌*◌, ◌/◌, ◌<◌, ◌≤◌, List, length, take, drop, min, IsTrue, IfOk, OnOk};
 ghost use Rattle.disk_model.specs.Disks.{Caused, OnlyReads};
 ghost use Rattle.store_model.specs.Cost.{Reads};
 ghost use Rattle.store_model.specs.Disk.{Took, page_bytes};

@@ -1,7 +1,6 @@
 // The links of a state: one for each extent, which ends with its mark, and the last, which ends with the digest.
 
-ghost use Rattle.std.specs.Prelude.{◌≡◌, ◌+◌, ◌*◌, ◌/◌, ◌%◌, ◌^◌, ◌<◌, ◌≤◌, length};
-ghost use Rattle.store_model.specs.Disk.{page_bytes};
+ghost use Rattle.std.specs.Prelude.{◌≡◌, ◌%◌, ◌^◌, ◌<◌, ◌≤◌, length};
 ghost use Rattle.store_model.specs.Hash.{bytes_of_state};
 ghost use Rattle.store_model.specs.Verify.{kept, link_from, link_value, mark_at};
 

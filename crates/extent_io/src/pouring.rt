@@ -1,6 +1,6 @@
 // Writing a content.
 
-ghost use Rattle.std.specs.Prelude.{◌≡◌, ℕ, ◌+◌, ◌-◌, ◌*◌, ◌/◌, ◌%◌, ◌<◌, ◌≤◌, List, length, drop, min, Some, IsTrue, OnOk, IfErr};
+ghost use Rattle.std.specs.Prelude.{◌≡◌, ℕ, ◌+◌, ◌*◌, ◌/◌, ◌%◌, ◌≤◌, List, length, drop, min, Some, IsTrue, OnOk};
 ghost use Rattle.disk_model.specs.Disks.{Caused, OnlyWrites};
 ghost use Rattle.store_model.specs.Disk.{Took, page_bytes, page_of};
 ghost use Rattle.store_model.specs.Holds.{Holds, HoldsFront, IsFullPage, IsPoured, IsTailPage, pages_from, place_of, rest_of};

@@ -1,6 +1,6 @@
 // Verifying a content, link by link.
 
-ghost use Rattle.std.specs.Prelude.{◌≡◌, ◌≢◌, ℕ, ◌+◌, ◌*◌, ◌/◌, ◌%◌, ◌<◌, ◌≤◌, List, length, min, Ok, IsTrue, IfOk, OnOk, IfErr};
+ghost use Rattle.std.specs.Prelude.{◌≡◌, ◌≢◌, ℕ, ◌*◌, ◌/◌, ◌%◌, ◌<◌, ◌≤◌, List, length, min, Ok, IsTrue, IfOk, OnOk};
 ghost use Rattle.disk_model.specs.Disks.{Caused, OnlyReads};
 ghost use Rattle.store_model.specs.Cost.{Reads};
 ghost use Rattle.store_model.specs.Disk.{Took, page_bytes};
@@ -9,8 +9,9 @@ ghost use Rattle.store_model.specs.Holds.{pages_from, place_of};
 ghost use Rattle.store_model.specs.Layout.{data_page, data_pages, total_pages};
 ghost use Rattle.store_model.specs.Shape.{pages_used};
 ghost use Rattle.store_model.specs.Space.{AreBlocks, blocks_of};
-ghost use Rattle.store_model.specs.Verify.{FailsFirst, Verifies, computed, extent_bytes, kept, tail_on};
+ghost use Rattle.store_model.specs.Verify.{FailsFirst, IsDamage, LeadsTo, Verifies, computed, extent_bytes, kept, tail_on};
 ghost use Rattle.extent_io.specs.Pages.{pages_of_link};
+ghost use Rattle.extent_io.specs.ReadBytes.{ClosesOver, GivesOver, LeadOver};
 ghost use Rattle.extent_io.specs.declared.verdict.Verdict.TheVariants.{Damaged, Whole};
 
 use crate::links::{kept_value, last_link, mark_before, mark_value};
@@ -30,6 +31,12 @@ pub fn verify<D: Disk>(disk: &mut D, layout: Layout, state: &BlobState) -> Resul
     ensures whole { IsTrue D.tells → result ≡ Ok Whole → Verifies (D.story disk.old).reads (data_page layout) state.now }
     ensures damaged { IsTrue D.tells → (link : ℕ) (want got : List ℕ) → result ≡ Ok (Damaged link want got)
         → FailsFirst (computed (D.story disk.old).reads (data_page layout) state.now) state.now link want got }
+
+    // Whatever the disk tells, there are bytes that give the verdict: a content of the state's size leads to the state, or the
+    // link is the first that fails over such a content.
+    ensures led { result ≡ Ok Whole → (content : List ℕ) × LeadsTo content state.now }
+    ensures damage { (link : ℕ) (want got : List ℕ) → result ≡ Ok (Damaged link want got) → IsDamage state.now link want got }
+
     // Whatever the disk tells, the link is one of the state's, `want` is what the state keeps of it, and the two values
     // are different ones.
     ensures link { (link : ℕ) (want got : List ℕ) → result ≡ Ok (Damaged link want got) → link ≤ length state.now.extents }
@@ -65,11 +72,13 @@ fn computed_value<D: Disk>(
     requires within { AreBlocks (data_pages layout) (blocks_of (place_of state.now)) }
     requires link { link ≤ length state.now.extents }
     ensures value { IsTrue D.tells → IfOk result (λ bytes. bytes ≡ computed (D.story disk.old).reads (data_page layout) state.now link) }
+    ensures over { IfOk result (λ bytes. GivesOver state.now link bytes) }
     ensures reads { IsTrue D.tells → OnOk result (Took (pages_of_link state.now link) 0 0 (D.calls disk.old) (D.calls disk.new)) }
     ensures still { IsTrue D.tells → Reads (D.calls disk.old) (D.calls disk.new) }
     ensures only_reads { OnlyReads D.Disk disk.old disk.new }
     ensures cause { Caused D.Disk disk.old disk.new result }
 {
+    state.rules();
     let mark = mark_before(state, link);
     if link < last_link(state) {
         let mark = hash_extent(disk, layout, state, link, mark)?;
@@ -91,6 +100,7 @@ fn hash_extent<D: Disk>(
     requires extent { i < length state.now.extents }
     ensures mark { IsTrue D.tells
         → IfOk result (λ mark. mark.words ≡ state_after before.words (extent_bytes (D.story disk.old).reads (data_page layout) state.now i)) }
+    ensures over { IfOk result (λ mark. LeadOver (pages_used state.now.size i) before.words mark.words) }
     ensures reads { IsTrue D.tells → OnOk result (Took (pages_used state.now.size i) 0 0 (D.calls disk.old) (D.calls disk.new)) }
     ensures still { IsTrue D.tells → Reads (D.calls disk.old) (D.calls disk.new) }
     ensures only_reads { OnlyReads D.Disk disk.old disk.new }
@@ -119,6 +129,7 @@ fn hash_tail<D: Disk>(
     requires within { AreBlocks (data_pages layout) (blocks_of (place_of state.now)) }
     ensures digest { IsTrue D.tells → IfOk result (λ bytes. bytes ≡ close before.words (64 * (state.now.size / page_bytes))
         (tail_on (D.story disk.old).reads (data_page layout) state.now.size state.now.tail)) }
+    ensures over { IfOk result (λ bytes. ClosesOver state.now.size before.words bytes) }
     ensures reads { IsTrue D.tells → OnOk result (Took (min 1 (state.now.size % page_bytes)) 0 0 (D.calls disk.old) (D.calls disk.new)) }
     ensures still { IsTrue D.tells → Reads (D.calls disk.old) (D.calls disk.new) }
     ensures only_reads { OnlyReads D.Disk disk.old disk.new }

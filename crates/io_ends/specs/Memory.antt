@@ -1,6 +1,6 @@
 -- What the ends over memory tell.
-use Rattle.std.specs.Prelude.{ℕ, ◌+◌, ◌-◌, ◌^◌, ◌≡◌, ◌↔◌, min, Bool, true, false, Contains, IsErrOf, List, Option, Some, Result, drop}
-use Rattle.blob_base.specs.Faults.{OnMade}
+use Rattle.std.specs.Prelude.{ℕ, ◌+◌, ◌-◌, ◌^◌, ◌≡◌, ◌↔◌, min, Bool, true, false, Contains, IsErrOf, List, OnOk, Option, Some, Result, drop}
+use Rattle.blob_base.specs.Faults.{OnFailed, OnMade, OnNoMemory}
 use Rattle.blob_base.specs.declared.faults.IoFault.{IoFault}
 use Rattle.blob_base.specs.declared.faults.IoFault.TheVariants.{Failed}
 use Rattle.io_ends.specs.declared.memory.MemSource.{MemSource}
@@ -40,16 +40,26 @@ sink_frugal sink = false
 abbrev pub call_behind : ℕ → ℕ
 call_behind calls = min (calls + 1) (2 ^ 64 - 1)
 
--- A read failed exactly where its number is one of those that were chosen. The choice is kept, and so is how many bytes a
--- read gives at most.
+-- the count of faults behind one more
+abbrev pub fault_behind : ℕ → ℕ
+fault_behind faults = min (faults + 1) (2 ^ 64 - 1)
+
+-- A read failed exactly where its number is one of those that were chosen, and the count of faults rose by one then and
+-- stayed else. The choice is kept, and so is how many bytes a read gives at most.
 pub record ReadAsChosen {T : Type 0} (old new : MemSource) (result : Result T IoFault) : Type 0 where
   pub failed : IsErrOf result Failed ↔ Contains old.fails (call_behind old.calls)
+  pub faulted : OnFailed result (source_faults new ≡ fault_behind (source_faults old))
+  pub faultless : OnOk result (source_faults new ≡ source_faults old)
   pub counted : new.calls ≡ call_behind old.calls
   pub kept : new.fails ≡ old.fails
   pub piece : new.piece ≡ old.piece
 
--- A write that was made failed exactly where its number is one of those that were chosen, and the choice is kept.
+-- A write that was made failed exactly where its number is one of those that were chosen, and the count of faults rose by
+-- one then and stayed else. The choice is kept.
 pub record WrittenAsChosen {T : Type 0} (old new : MemSink) (result : Result T IoFault) : Type 0 where
   pub failed : OnMade result (IsErrOf result Failed ↔ Contains old.fails (call_behind old.calls))
+  pub faulted : OnFailed result (sink_faults new ≡ fault_behind (sink_faults old))
+  pub faultless : OnOk result (sink_faults new ≡ sink_faults old)
+  pub unmade : OnNoMemory result (sink_faults new ≡ sink_faults old)
   pub counted : new.calls ≡ call_behind old.calls
   pub kept : new.fails ≡ old.fails

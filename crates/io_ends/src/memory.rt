@@ -1,6 +1,6 @@
 // Ends over memory, which fail at chosen calls. Calls are counted from 1.
 
-ghost use Rattle.std.specs.Prelude.{◌≡◌, ℕ, ◌+◌, ◌-◌, ◌^◌, ◌<◌, ◌≤◌, ◌==◌, List, [], ◌++◌, min, Bool, true, false, Some, length, take, drop, Contains, ◌↔◌, IfOk, IfErr, IsTrue};
+ghost use Rattle.std.specs.Prelude.{◌≡◌, ◌+◌, ◌-◌, ◌^◌, ◌<◌, ◌≤◌, [], min, true, false, Some, length, drop, Contains, ◌↔◌, IfOk, IsTrue};
 
 use crate::{Sink, Source};
 use blob_base::{Bytes, Bytes64, IoFault};

@@ -1,6 +1,6 @@
 // Ends over std's readers and writers: the trusted edge. They tell what the reader or the writer tells.
 
-ghost use Rattle.std.specs.Prelude.{◌≡◌, ℕ, ◌+◌, ◌-◌, ◌^◌, ◌<◌, ◌≤◌, min, true, Some, length, IfOk, IfErr};
+ghost use Rattle.std.specs.Prelude.{◌≡◌, true};
 
 use crate::{Sink, Source};
 use blob_base::IoFault;

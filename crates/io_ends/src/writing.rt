@@ -3,7 +3,6 @@
 ghost use Rattle.std.specs.Prelude.{◌<◌, length, take, IfErr, OnOk};
 ghost use Rattle.std.specs.Io.KnownBytes.{Appends};
 ghost use Rattle.blob_base.specs.Faults.{CameFrom, KeepsEnd};
-ghost use Rattle.blob_base.specs.declared.faults.IoFault.TheVariants.{Failed};
 
 use crate::Sink;
 use blob_base::IoFault;

@@ -1,13 +1,16 @@
 -- What a crash in a turn leaves.
-use Rattle.std.proofs.Common.{◌≡◌, ℕ, ◌+◌, ◌-◌, ◌<◌, ◌≤◌, ◌⊎◌, IsTrue, List, inl, inr, refl, sym, ap, subst, ◌∙◌, arith}
+use Rattle.std.proofs.Common.{◌≡◌, ℕ, ◌+◌, ◌-◌, ◌<◌, ◌≤◌, ◌⊎◌, IsTrue, List, Err, inl, inr, refl, sym, ap, subst, ◌∙◌, arith}
 use Rattle.std.proofs.lemmas.Bool.{cases_lt}
 use Rattle.std.specs.FinMap.{FinMap}
+use Rattle.blob_base.specs.declared.faults.IoFault.{IoFault}
+use Rattle.blob_base.specs.declared.faults.IoFault.TheVariants as io
 use Rattle.check_point.specs.Writers.{IsOfHalf}
 use Rattle.disk_model.specs.Disks.{OnlyReads, OnlyWrites}
+use Rattle.disk_model.specs.Frame.{Counted}
 use Rattle.disk_model.specs.declared.disk.Disk.{Ghosts}
 use Rattle.disk_model.proofs.DiskLaws.{OnlyWrites-more, OnlyWrites-wider}
 use Rattle.store_model.specs.Dependence.{IsContentPage, IsHalfPage, IsLookedAt, IsOtherHalfPage}
-use Rattle.store_model.specs.Disk.{HasPages, Image, SameOff}
+use Rattle.store_model.specs.Disk.{HasPages, Image, SameOff, with_sync}
 use Rattle.store_model.specs.Frame.{Entry}
 use Rattle.store_model.specs.Half.{picked}
 use Rattle.store_model.specs.HalfRefusals.{FindsHalf}
@@ -16,15 +19,15 @@ use Rattle.store_model.specs.Key.{key_order}
 use Rattle.store_model.specs.Layout.{Layout, states_page, total_pages}
 use Rattle.store_model.specs.Log.{at_log, is_open}
 use Rattle.store_model.specs.LogReading.{HasBodies}
-use Rattle.store_model.specs.Reading.{Found, Gives, Opened, Reads, blocks_of_states}
+use Rattle.store_model.specs.Reading.{Found, Gives, Opened, Reads}
 use Rattle.store_model.specs.State.{State}
 use Rattle.store_model.proofs.DependenceLaws.{TakesEach-agree}
 use Rattle.store_model.proofs.FurtherLaws.{TakesEach-layout}
 use Rattle.store_model.proofs.HalfAgreeLaws.{FindsHalf-agree, HasBodies-agree}
-use Rattle.store_model.proofs.ImageLaws.{each, leaves_only, leaves_then, stays_settled}
+use Rattle.store_model.proofs.ImageLaws.{leaves_only, leaves_then, stays_settled}
 use Rattle.store_model.proofs.OffLaws.{picked-half, poured-data}
 use Rattle.store_model.proofs.UnseenLaws.{IsOtherHalfPage-unseen}
-use Rattle.recover.specs.Openings.{LeavesOpening, LeavesSince}
+use Rattle.recover.specs.Openings.{BeginsAt, LeavesFrom}
 use Rattle.recover.specs.Turns.{HalfStands, InTurn, IsTurnPage, ReadsThrough, found_by}
 use Rattle.recover.proofs.Turned.{Reads-turned}
 
@@ -173,38 +176,86 @@ InTurn-behind g layout l half h last k states old mid new layout_is half_is last
       second = here.second;
     }
 
--- What a settled disk leaves from its sync on.
-pub LeavesSince-left : {D : Type 0} (g : Ghosts D) (P : Image → Type 0) (old mid new : D) → Settled (g.story mid) → (g.story mid).time ≡ time_of (g.calls old) + 1
-    → P (g.story mid).reads → LeavesOnly P (g.story mid) (g.story new) → LeavesSince g P old new
-LeavesSince-left g P old mid new settled time has only = record {
-  past = omega (arith, time, only.later);
-  each = λ image left.
-      each P (g.story mid) (g.story new) image settled has only (subst (λ (t : ℕ). (g.story new).left t image) (sym time) left);
+-- What is left from a time on, and what calls since then leave.
+pub LeavesFrom-then : {D : Type 0} (g : Ghosts D) (P : Image → Type 0) (since : ℕ) (mid new : D) → LeavesFrom g P since mid → LeavesOnly P (g.story mid) (g.story new)
+    → LeavesFrom g P since new
+LeavesFrom-then g P since mid new from only = record {
+  past = omega (arith, from.past, only.later);
+  each = λ image left. elim (only.leaves since image from.past left) [
+    | inl before ↦ from.each image before
+    | inr now ↦ now
+  ];
 }
 
--- A store that a disk read as when it was settled is read still where it was read alone,
-module _ {D : Type 0} (g : Ghosts D) (old mid new : D) (found : Found) (half : ℕ) (told : IsTrue g.tells) (settled : Settled (g.story mid))
-    (time : (g.story mid).time ≡ time_of (g.calls old) + 1) (same : (g.story mid).reads ≡ (g.story old).reads)
+-- Reads change nothing of what is left.
+pub LeavesFrom-read : {D : Type 0} (g : Ghosts D) (P : Image → Type 0) (since : ℕ) (mid new : D) → IsTrue g.tells → LeavesFrom g P since mid → OnlyReads g mid new
+    → LeavesFrom g P since new
+LeavesFrom-read g P since mid new told from only =
+    LeavesFrom-then g P since mid new from (leaves-stayed P (g.story mid) (g.story new) (only.stayed told))
+
+-- Where nothing was pending at a disk's start, what it read as is what is left from then on, if nothing is written.
+left-settled : {D : Type 0} (g : Ghosts D) (P : Image → Type 0) (old mid : D) (since : ℕ) → Settled (g.story old) → since ≡ (g.story old).time
+    → Stayed (g.story old) (g.story mid) → P (g.story old).reads → LeavesFrom g P since mid
+left-settled g P old mid since settled start stayed has = record {
+  past = omega (arith, start, stayed.later);
+  each = λ image left.
+      subst P (sym (settled image (subst (λ (t : ℕ). (g.story old).left t image) start (stayed.leaves since image (omega (arith, start)) left)))) has;
+}
+
+-- What is left from an opening's first sync on, where that returned well,
+left-synced : {D : Type 0} (g : Ghosts D) (P : Image → Type 0) (old mid : D) (since : ℕ) → BeginsAt g old since → Stayed (g.story old) (g.story mid)
+    → Settled (g.story mid) → (g.story mid).time ≡ time_of (g.calls old) + 1 → P (g.story old).reads → LeavesFrom g P since mid
+left-synced g P old mid since (inr begins) stayed settled time has = left-settled g P old mid since begins.0 begins.1 stayed has
+left-synced g P old mid since (inl begins) stayed settled time has = record {
+  past = omega (arith, begins, time);
+  each = λ image left.
+      subst P (sym (settled image (subst (λ (t : ℕ). (g.story mid).left t image) (begins ∙ sym time) left) ∙ stayed.reads)) has;
+}
+
+-- and where it didn't.
+left-unsynced : {D : Type 0} (g : Ghosts D) (P : Image → Type 0) (old mid : D) (since : ℕ) → IsTrue g.tells → BeginsAt g old since → OnlyReads g old mid
+    → (g.story mid).time ≤ time_of (g.calls old) + 1 → P (g.story old).reads → LeavesFrom g P since mid ⊎ (OnlyReads g old mid × ((g.story mid).time ≤ since))
+left-unsynced g P old mid since told (inl begins) only time has = inr (only, omega (arith, begins, time))
+left-unsynced g P old mid since told (inr begins) only time has = inl (left-settled g P old mid since begins.0 begins.1 (only.stayed told) has)
+
+-- A sync that didn't return well was one call at most.
+pub failed-time : {D T : Type 0} (g : Ghosts D) (old new : D) (why : IoFault) → IsTrue g.tells
+    → Counted {T = T} g.tells g.story g.calls g.faults with_sync old new (Err why) → (g.story new).time ≤ time_of (g.calls old) + 1
+failed-time g old new io.Failed told counted = omega (arith, counted.time told, ap time_of (counted.made told))
+failed-time g old new io.OutOfMemory told counted = omega (arith, counted.time told, ap time_of (counted.unmade told).0)
+
+-- a disk reads as the store that it read as
+ReadsThrough-self : (pages : ℕ) (image : Image) (found : Found) (half : ℕ) → Reads pages image (Opened found) → ReadsThrough pages found half image image
+ReadsThrough-self pages image found half reads = record { reads = reads; same = λ p off. refl }
+
+-- A store that a disk read as is read still, from a time on with which an opening begins, where its first sync failed,
+pub Opening-unsynced : {D : Type 0} (g : Ghosts D) (old mid : D) (found : Found) (half since : ℕ) → IsTrue g.tells → BeginsAt g old since → OnlyReads g old mid
+    → (g.story mid).time ≤ time_of (g.calls old) + 1 → Reads (g.size old) (g.story old).reads (Opened found)
+    → LeavesFrom g (ReadsThrough (g.size old) found half (g.story old).reads) since mid ⊎ (OnlyReads g old mid × ((g.story mid).time ≤ since))
+Opening-unsynced g old mid found half since told begins only time reads =
+    left-unsynced g (ReadsThrough (g.size old) found half (g.story old).reads) old mid since told begins only time
+    (ReadsThrough-self (g.size old) (g.story old).reads found half reads)
+
+module _ {D : Type 0} (g : Ghosts D) (old mid new : D) (found : Found) (half since : ℕ) (told : IsTrue g.tells) (begins : BeginsAt g old since)
+    (stayed : Stayed (g.story old) (g.story mid)) (settled : Settled (g.story mid)) (time : (g.story mid).time ≡ time_of (g.calls old) + 1)
     (reads : Reads (g.size old) (g.story old).reads (Opened found)) where
   abbrev Still : Image → Type 0
   Still = ReadsThrough (g.size old) found half (g.story old).reads
 
-  still-mid : Still (g.story mid).reads
-  still-mid = record {
-    reads = subst (λ (image : Image). Reads (g.size old) image (Opened found)) (sym same) reads;
-    same = λ p off. ap (λ (image : Image). image p) same;
-  }
+  still-mid : LeavesFrom g Still since mid
+  still-mid = left-synced g Still old mid since begins stayed settled time (ReadsThrough-self (g.size old) (g.story old).reads found half reads)
 
-  pub Opening-read : OnlyReads g mid new → LeavesOpening g Still old new
-  Opening-read only = inl (LeavesSince-left g Still old mid new settled time still-mid (leaves-stayed Still (g.story mid) (g.story new) (only.stayed told)))
+  -- where it was read alone then,
+  pub Opening-read : OnlyReads g mid new → LeavesFrom g Still since new
+  Opening-read only = LeavesFrom-read g Still since mid new told still-mid only
 
   -- and where it was turned then.
   pub Opening-turned : (at : D) (layout : Layout) (last : ℕ) (states : FinMap key_order State) → OnlyReads g mid at → g.size at ≡ g.size old
       → found ≡ found_by layout last states → picked ((g.story old).reads 0) ≡ 1 - half → half ≤ 1
-      → total_pages layout ≤ g.size at → InTurn g layout half last states at new → LeavesSince g Still old new
+      → total_pages layout ≤ g.size at → InTurn g layout half last states at new → LeavesFrom g Still since new
   Opening-turned at layout last states only size found_is picks two fits turned =
       let image : Image = (g.story old).reads in
-      let now : (g.story at).reads ≡ image = (only.stayed told).reads ∙ same in
+      let now : (g.story at).reads ≡ image = (only.stayed told).reads ∙ stayed.reads in
       let there : Reads (g.size at) (g.story at).reads (Opened (found_by layout last states)) =
       subst (λ (n : ℕ). Reads n (g.story at).reads (Opened (found_by layout last states))) (sym size)
       (subst (λ (pages : Image). Reads (g.size old) pages (Opened (found_by layout last states))) (sym now)
@@ -215,13 +266,4 @@ module _ {D : Type 0} (g : Ghosts D) (old mid new : D) (found : Found) (half : �
       subst (λ (f : Found). LeavesOnly (ReadsThrough (g.size old) f half image) (g.story at) (g.story new)) (sym found_is)
       (subst (λ (n : ℕ). LeavesOnly (ReadsThrough n (found_by layout last states) half image) (g.story at) (g.story new)) size
       (subst (λ (pages : Image). LeavesOnly (ReadsThrough (g.size at) (found_by layout last states) half pages) (g.story at) (g.story new)) now left)) in
-      LeavesSince-left g Still old mid new settled time still-mid
-      (leaves_then Still (g.story mid) (g.story at) (g.story new) (leaves-stayed Still (g.story mid) (g.story at) (only.stayed told)) mine)
-
--- Reads change nothing of what is left.
-pub LeavesSince-read : {D : Type 0} (g : Ghosts D) (P : Image → Type 0) (old mid new : D) → IsTrue g.tells → LeavesSince g P old mid → OnlyReads g mid new
-    → LeavesSince g P old new
-LeavesSince-read g P old mid new told since only = record {
-  past = omega (arith, since.past, (only.stayed told).later);
-  each = λ image left. since.each image ((only.stayed told).leaves (time_of (g.calls old) + 1) image since.past left);
-}
+      LeavesFrom-then g Still since at new (LeavesFrom-read g Still since mid at told still-mid only) mine

@@ -1,12 +1,11 @@
 -- What is found on a disk that is opened.
 use Rattle.std.specs.Prelude.{ℕ, ◌≡◌, ◌⊎◌, ◌+◌, ◌≤◌, ◌<◌}
-use Rattle.disk_model.specs.Disks.{OnlyReads}
 use Rattle.disk_model.specs.declared.disk.Disk.{Ghosts}
 use Rattle.recover.specs.declared.opening.Found.{Found}
 use Rattle.store_model.specs.Disk.{Calls, Image}
 use Rattle.store_model.specs.Half.{IsHalf, picked}
 use Rattle.store_model.specs.HalfRefusals.{FindsHalf}
-use Rattle.store_model.specs.Images.{time_of}
+use Rattle.store_model.specs.Images.{Settled, time_of}
 use Rattle.store_model.specs.Layout.{data_page, total_pages}
 use Rattle.store_model.specs.Log.{body_pages}
 use Rattle.store_model.specs.Reading as reading
@@ -35,11 +34,11 @@ pub record TookOpening (bytes : ℕ) (old new : Calls) : Type 0 where
   pub writes : new.writes ≡ old.writes + (body_pages bytes + 3)
   pub syncs : new.syncs ≡ old.syncs + 3
 
--- The first call had been a sync, which returned; and whatever a crash left at any moment from then on has P.
-pub record LeavesSince {D : Type 0} (g : Ghosts D) (P : Image → Type 0) (old new : D) : Type 0 where
-  pub past : time_of (g.calls old) + 1 ≤ (g.story new).time
-  pub each : (image : Image) → (g.story new).left (time_of (g.calls old) + 1) image → P image
+-- the times from which a run over a disk is spoken of: the return of its first call, and its start, where nothing was pending
+abbrev pub BeginsAt : {D : Type 0} → Ghosts D → D → ℕ → Type 0
+BeginsAt g old since = (since ≡ time_of (g.calls old) + 1) ⊎ (Settled (g.story old) × (since ≡ (g.story old).time))
 
--- So it is, or that sync didn't return well, and no further call was made.
-abbrev pub LeavesOpening : {D : Type 0} → Ghosts D → (Image → Type 0) → D → D → Type 0
-LeavesOpening g P old new = LeavesSince g P old new ⊎ (OnlyReads g old new × ((g.story new).time ≤ time_of (g.calls old) + 1))
+-- Whatever a crash left at any moment since then has P.
+pub record LeavesFrom {D : Type 0} (g : Ghosts D) (P : Image → Type 0) (since : ℕ) (new : D) : Type 0 where
+  pub past : since ≤ (g.story new).time
+  pub each : (image : Image) → (g.story new).left since image → P image

@@ -1,11 +1,11 @@
 // The opening of a disk.
 
-ghost use Rattle.std.specs.Prelude.{◌≡◌, ℕ, ◌-◌, ◌<◌, ◌≤◌, [], Err, IfErr, IfOk, IsTrue, MatchResult, OnOk};
+ghost use Rattle.std.specs.Prelude.{◌≡◌, ℕ, ◌-◌, ◌<◌, ◌≤◌, ◌⊎◌, [], Err, IfErr, IfOk, IsTrue, MatchResult, OnOk};
 ghost use Rattle.blob_base.specs.declared.faults.StoreRefusal.{StoreRefusal as Why};
 ghost use Rattle.disk_model.specs.Disks.{OnlyReads, OnlyWrites};
 ghost use Rattle.recover.specs.Faults.{CameFrom, IsOfHalf, IsOfSpace, IsRead};
 ghost use Rattle.recover.specs.Frames.{IsSound};
-ghost use Rattle.recover.specs.Openings.{IsFound, IsMetadata, LeavesOpening, LeavesSince, TookOpening, found_of};
+ghost use Rattle.recover.specs.Openings.{BeginsAt, IsFound, IsMetadata, LeavesFrom, TookOpening, found_of};
 ghost use Rattle.recover.specs.Turns.{IsTurned, ReadsThrough};
 ghost use Rattle.recover.specs.declared.fault.RecoverFault.TheVariants.{Refused};
 ghost use Rattle.relation.specs.Parts.{encoded_by};
@@ -107,13 +107,16 @@ pub fn recover<D: Disk>(alloc: Global, disk: &mut D) -> Result<Found, RecoverFau
     ensures calls { IsTrue D.tells → IfOk result (λ found.
         TookOpening (encoded_by found.relation.states) (D.calls disk.old) (D.calls disk.new)) }
 
-    // A store that the disk read as survives a crash at each moment from the return of its first sync on.
-    ensures survives { IsTrue D.tells → (found : StoreFound) → Reads (D.size disk.old) (D.story disk.old).reads (Opened found)
+    // A store that the disk read as survives a crash at each moment from the return of its first sync on and, where nothing was
+    // pending, from the call on; or no further call was made, as that sync didn't return well.
+    ensures survives { IsTrue D.tells → (found : StoreFound) (since : ℕ) → BeginsAt D.Disk disk.old since
+        → Reads (D.size disk.old) (D.story disk.old).reads (Opened found)
         → MatchResult result
-        (λ _. LeavesSince D.Disk (ReadsThrough (D.size disk.old) found (1 - picked ((D.story disk.old).reads 0)) (D.story disk.old).reads)
-        disk.old disk.new)
-        (λ _. LeavesOpening D.Disk (ReadsThrough (D.size disk.old) found (1 - picked ((D.story disk.old).reads 0)) (D.story disk.old).reads)
-        disk.old disk.new) }
+        (λ _. LeavesFrom D.Disk (ReadsThrough (D.size disk.old) found (1 - picked ((D.story disk.old).reads 0)) (D.story disk.old).reads)
+        since disk.new)
+        (λ _. LeavesFrom D.Disk (ReadsThrough (D.size disk.old) found (1 - picked ((D.story disk.old).reads 0)) (D.story disk.old).reads)
+        since disk.new
+        ⊎ (OnlyReads D.Disk disk.old disk.new × ((D.story disk.new).time ≤ since))) }
 
     // No page of the data area was written, and a crash leaves each as before.
     ensures wrote { OnlyWrites D.Disk (IsMetadata (D.size disk.old) (D.story disk.old).reads) disk.old disk.new }

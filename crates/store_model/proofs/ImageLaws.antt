@@ -4,7 +4,7 @@ use Rattle.std.proofs.Math.Nat.{le_refl, le_trans}
 use Rattle.std.proofs.Math.Seq.{take-suc}
 use Rattle.std.proofs.lemmas.Bool.{eq-eqb, cases_lt}
 use Rattle.std.proofs.lemmas.Bool.Decides.{eqb_tells}
-use Rattle.store_model.specs.Disk.{Image, SameOff, with_page, with_pages}
+use Rattle.store_model.specs.Disk.{HasPages, Image, SameOff, with_page, with_pages}
 use Rattle.store_model.specs.Images.{Story, MayLeave, Altered, Settled, Wrote, Stayed, Unchanged, LeavesOnly, Within, Reached, Climbed}
 
 -- the page that was put
@@ -241,3 +241,15 @@ pub climbed_first : (P : ℕ → Image → Type 0) (a : Story) → Settled a →
 climbed_first P a settled has k most =
     let none : 0 ≡ k = omega arith in
     subst (λ (j : ℕ). Reached P j a) none (reached_now P 0 a settled has)
+
+-- what has P where at most these pages differ from a settled disk, whose images have whole pages
+pub leaves_whole : (P : Image → Type 0) (pages : ℕ → Type 0) (a b : Story) → Settled a → Wrote pages a b
+    → ((image : Image) → HasPages image → SameOff pages a.reads image → P image) → LeavesOnly P a b
+leaves_whole P pages a b settled wrote has = record {
+  later = wrote.later;
+  leaves = λ t image most left. elim (wrote.leaves t image most left) [
+    | inl before ↦ inl before
+    | inr now ↦ inr (has image (b.pages t image left) (λ p off. now.2 p off ∙ ap (λ (old : Image). old p) (settled now.0 now.1)))
+  ];
+  keeps = wrote.keeps;
+}

@@ -97,4 +97,5 @@ pub mod SurvivalStateLaws
 pub mod SurvivalEntryLaws
 pub mod SurvivalFrameLaws
 pub mod SurvivalStoryLaws
+pub mod SurvivalAgainLaws
 pub mod ReportLaws

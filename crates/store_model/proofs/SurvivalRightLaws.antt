@@ -9,7 +9,7 @@ use Rattle.store_model.specs.Images.{MayLeave, Reached, Story}
 use Rattle.store_model.specs.Key.{key_order}
 use Rattle.store_model.specs.Layout.{Layout, data_page}
 use Rattle.store_model.specs.Store.{Object, Store}
-use Rattle.store_model.specs.Survival.{BothTold, Chance, DoesCommitVerify, Group, IsByChance, NoneFree, IsUnder, ReadsAs, ReadsAsPart, ReadsBut, Survives, SurvivesCrashes, store_at, with_commits}
+use Rattle.store_model.specs.Survival.{BothTold, Chance, DoesCommitVerify, Group, IsByChance, NoneFree, IsUnder, ReadsAs, ReadsAsPart, ReadsBut, Survives, store_at, with_commits}
 use Rattle.store_model.proofs.SurvivalKeptLaws.{kept-all, kept-under}
 use Rattle.store_model.proofs.SurvivalLaws.{BothTold-free, store_at-next}
 use Rattle.store_model.proofs.SurvivalPartLaws.{commits-all}
@@ -70,15 +70,3 @@ ReadsAsPart-held pages image layout before group none part =
 pub Climbed-now : (P : ℕ → Image → Type 0) (n : ℕ) (story : Story) (image : Image) → Reached P n story → MayLeave story image
     → (j : ℕ) × (n ≤ j) × P j image
 Climbed-now P n story image reached left = reached.each image (story.since reached.time story.time image reached.past (omega arith) left)
-
--- So two of the three facts give the third.
-pub SurvivesCrashes-by : (pages : ℕ) (layout : Layout) (start : Store) (groups : List Group) (since answered : ℕ) (story : Story)
-    → ((image : Image) → story.left since image → (j : ℕ) × Survives pages image layout start groups j)
-    → ((k : ℕ) → k ≤ answered → Reached (λ j image. Survives pages image layout start groups j) k story)
-    → SurvivesCrashes pages layout start groups since answered story
-SurvivesCrashes-by pages layout start groups since answered story each climbed = record {
-  each = each;
-  climbed = climbed;
-  now = λ image left.
-      Climbed-now (λ j other. Survives pages other layout start groups j) answered story image (climbed answered (omega arith)) left;
-}

@@ -15,6 +15,7 @@ use Rattle.store_model.specs.Key.{key_order}
 use Rattle.store_model.specs.Layout.{Layout, data_page}
 use Rattle.store_model.specs.Reading.{AreKept, DoesWriteVerify, Found, Gives, blocks_of_states, with_entries, with_entry, with_write}
 use Rattle.store_model.specs.Space.{owners}
+use Rattle.store_model.specs.Stands.{DoAllVerify}
 use Rattle.store_model.specs.State.{State}
 use Rattle.store_model.specs.Verify.{Verifies}
 use Rattle.store_model.specs.Windows.{InSecondWindow, IsBodyPage, IsPouredPage, MayFollow}
@@ -86,10 +87,6 @@ pub Holds-second : (pages : ℕ) (base image : Image) (found : Found) (gives : G
 Holds-second pages base image found gives bytes entries key state content window there holds =
     Holds-agree found.layout base image state content
     (λ p poured. poured-second pages base image found gives bytes entries key state p window there poured) holds
-
--- each of these states verifies
-abbrev pub DoAllVerify : Image → Layout → FinMap key_order State → Type 0
-DoAllVerify image layout states = (key : List ℕ) (state : State) → get states key ≡ Some state → Verifies image (data_page layout) state
 
 -- Found states that verify verify in both windows.
 pub verify-first : (pages : ℕ) (base image : Image) (found : Found) (gives : Gives pages base found) (bytes : List ℕ) (entries : List Entry)

@@ -41,3 +41,6 @@ pub mod Dependence
 pub mod Report
 pub mod Windows
 pub mod Survival
+pub mod Endures
+pub mod Stands
+pub mod Keeps

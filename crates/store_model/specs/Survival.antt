@@ -1,11 +1,11 @@
 -- What a store is after a crash: the store after some group of a script, or that one with whole transactions of the next group.
-use Rattle.std.specs.Prelude.{ℕ, zero, suc, ◌≡◌, ◌<◌, ◌≤◌, ◌⊎◌, ⊤, List, [], ◌∷◌, Option, Some, None, Contains, fold, map, slice_get}
-use Rattle.std.specs.List.{All, filter_map}
+use Rattle.std.specs.Prelude.{ℕ, zero, suc, ◌≡◌, ◌<◌, ◌≤◌, ◌⊎◌, ⊤, List, [], ◌∷◌, Option, Some, None, Contains, fold, length, map, slice_get}
+use Rattle.std.specs.List.{All, cons_option, filter_map}
 use Rattle.std.specs.FinMap.{FinMap, get}
 use Rattle.store_model.specs.Disk.{Image}
 use Rattle.store_model.specs.Group.{Commit}
 use Rattle.store_model.specs.Holds.{Holds}
-use Rattle.store_model.specs.Images.{Climbed, MayLeave, Story}
+use Rattle.store_model.specs.Images.{Climbed, MayLeave, Settled, Story}
 use Rattle.store_model.specs.Key.{key_order}
 use Rattle.store_model.specs.Layout.{Layout, data_page}
 use Rattle.store_model.specs.Placing.{Placed}
@@ -142,13 +142,28 @@ Survives pages image layout start groups j =
     ReadsAs pages image layout (store_at start groups j).objects (store_at start groups j).last
     ⊎ ((group : Group) × (slice_get groups j ≡ Some group) × ReadsAsPart pages image layout (store_at start groups j) group)
 
--- The groups of a script survive each crash of a disk that began with the store `start`. The time `since` is that at which the first
--- sync after opening had returned, and `answered` says of how many groups the lead has returned.
-pub record SurvivesCrashes (pages : ℕ) (layout : Layout) (start : Store) (groups : List Group) (since answered : ℕ) (story : Story) : Type 0 where
-  -- whatever a crash at any moment since then left, some first groups survived it
-  pub each : (image : Image) → story.left since image → (j : ℕ) × Survives pages image layout start groups j
+-- the group of a step that committed these, where it committed something
+abbrev pub groups_by : List Commit → Store → List Group
+groups_by commits after = cons_option (group_of commits after) []
+
+-- A step that commits these survives a crash: the disk reads as the store before it, or as that one with a part of its group.
+abbrev pub SurvivesStep : ℕ → Image → Layout → Store → List Commit → Store → Type 0
+SurvivesStep pages image layout before commits after = Survives pages image layout before (groups_by commits after) 0
+
+-- A disk reads as a store, with all its contents, and a crash leaves just that.
+pub record RestsAs (pages : ℕ) (layout : Layout) (store : Store) (story : Story) : Type 0 where
+  pub reads : ReadsAs pages story.reads layout store.objects store.last
+  pub settled : Settled story
+
+-- The groups of a run that began with the store `start` survive each crash of its disk since a time. `answered` is how many of them
+-- the run has come behind: the leads of these have returned, and that of the next, where there is one, may be under way.
+pub record SurvivesAll (pages : ℕ) (layout : Layout) (start : Store) (groups : List Group) (since answered : ℕ) (story : Story) : Type 0 where
+  pub past : since ≤ story.time
+  pub some : answered ≤ length groups
+  -- whatever a crash left at any moment since then has some first groups, no more than were answered, and at most a part of the next
+  pub each : (image : Image) → story.left since image → (j : ℕ) × (j ≤ answered) × Survives pages image layout start groups j
   -- group after group, and never back: for each number up to `answered` there is a time from which on whatever a crash left has so
   -- many groups or more
   pub climbed : Climbed (λ j image. Survives pages image layout start groups j) answered story
-  -- what a crash now leaves has every group that was answered
-  pub now : (image : Image) → MayLeave story image → (j : ℕ) × (answered ≤ j) × Survives pages image layout start groups j
+  -- whatever a crash leaves now has just those that were answered, with at most a part of the next
+  pub now : (image : Image) → MayLeave story image → Survives pages image layout start groups answered

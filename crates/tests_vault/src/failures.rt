@@ -1,7 +1,5 @@
 // Calls of the disk that fail in a lead.
 
-ghost use Rattle.vault.specs.Vaults.{IsVault};
-
 use crate::trial::{add_put, blank, expect_state, formatted, opened};
 use blob_base::Bytes64;
 use disk_model::Disk;
@@ -11,10 +9,7 @@ use std::test::Fail;
 use vault::{Cause, LeadFault, Vault};
 
 // The lead of a put fails, and shuts the vault for good.
-fn expect_shut<R: Abort + AllocGlobal, D: Disk>(rt: &R, vault: &mut Vault<D>) -> Result<(), Fail>
-    requires { IsVault D.Disk vault.old.disk vault.old.memory vault.old.shut }
-    ensures { IsVault D.Disk vault.new.disk vault.new.memory vault.new.shut }
-{
+fn expect_shut<R: Abort + AllocGlobal, D: Disk>(rt: &R, vault: &mut Vault<D>) -> Result<(), Fail> {
     let shut = LeadFault::Shut { cause: Cause::Disk };
     let mut queue = Queue::new(rt.alloc());
     add_put(rt, &mut queue, 0, "demo/a", b"abc")?;
@@ -29,7 +24,7 @@ fn expect_shut<R: Abort + AllocGlobal, D: Disk>(rt: &R, vault: &mut Vault<D>) ->
     assert_eq!(rt; vault.front(), 0);
     assert_eq!(rt; vault.history().len(), 0);
     // The body of the entry that sets the key takes 119 bytes.
-    assert_eq!(rt; vault.keeping.failed.len(), 119);
+    assert_eq!(rt; vault.keeping().failed.len(), 119);
     Ok(())
 }
 
@@ -37,7 +32,7 @@ fn expect_shut<R: Abort + AllocGlobal, D: Disk>(rt: &R, vault: &mut Vault<D>) ->
 // are on the page. So the content is found where the gate was written.
 #[test]
 fn each_failed_call_shuts(rt: HostRuntime) -> Result<(), Fail> {
-    let (reads, writes, syncs) = opened(&rt, blank(&rt)?)?.disk.calls();
+    let (reads, writes, syncs) = opened(&rt, blank(&rt)?)?.disk().calls();
     for i in 1..7 {
         let fails = Bytes64::from_vec([reads + writes + syncs + i].to_vec(rt.alloc())?);
         let disk = formatted(&rt, fails)?;
@@ -58,7 +53,7 @@ fn each_failed_call_shuts(rt: HostRuntime) -> Result<(), Fail> {
 // The turn of a store without states writes a header, a gate, a sync, the selector and a sync.
 #[test]
 fn each_failed_call_of_a_turn_shuts(rt: HostRuntime) -> Result<(), Fail> {
-    let (reads, writes, syncs) = opened(&rt, blank(&rt)?)?.disk.calls();
+    let (reads, writes, syncs) = opened(&rt, blank(&rt)?)?.disk().calls();
     for i in 1..6 {
         let fails = Bytes64::from_vec([reads + writes + syncs + i].to_vec(rt.alloc())?);
         let disk = formatted(&rt, fails)?;

@@ -39,7 +39,7 @@ const DIGEST: &str = "ba7816bf8f01cfea414140de5dae2223b00361a396177a9cb410ff61f2
 fn a_commit_is_in_the_history(rt: HostRuntime) -> Result<(), Fail> {
     let mut vault = opened(&rt, blank(&rt)?)?;
     assert_eq!(rt; vault.history().len(), 0);
-    assert_eq!(rt; vault.keeping.opened.states.len(), 0);
+    assert_eq!(rt; vault.keeping().opened.states.len(), 0);
     put(&rt, &mut vault, "demo/a", b"abc", 1)?;
     let history = vault.history();
     assert!(rt; history.len() == 1);
@@ -56,12 +56,12 @@ fn a_commit_is_in_the_history(rt: HostRuntime) -> Result<(), Fail> {
         None => assert!(rt; false, "no print"),
     }
     expect_hex(&rt, &done.form, ENTRY)?;
-    assert!(rt; vault.keeping.groups.as_slice() == [1].as_slice());
-    assert_eq!(rt; vault.keeping.failed.len(), 0);
+    assert!(rt; vault.keeping().groups.as_slice() == [1].as_slice());
+    assert_eq!(rt; vault.keeping().failed.len(), 0);
     let again = opened(&rt, vault.close())?;
     assert_eq!(rt; again.history().len(), 0);
-    assert_eq!(rt; again.keeping.opened.last, 1);
-    expect_hex(&rt, &again.keeping.opened.states, TUPLE)
+    assert_eq!(rt; again.keeping().opened.last, 1);
+    expect_hex(&rt, &again.keeping().opened.states, TUPLE)
 }
 
 #[test]
@@ -73,6 +73,6 @@ fn a_group_has_its_last_number(rt: HostRuntime) -> Result<(), Fail> {
     lead(&rt, &mut vault, &mut queue, &[1, 2]);
     put(&rt, &mut vault, "demo/a", b"", 3)?;
     assert_eq!(rt; vault.history().len(), 3);
-    assert!(rt; vault.keeping.groups.as_slice() == [2, 3].as_slice());
+    assert!(rt; vault.keeping().groups.as_slice() == [2, 3].as_slice());
     Ok(())
 }

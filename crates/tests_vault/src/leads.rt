@@ -28,9 +28,9 @@ const ONE_SET: &str = "424c4f4246524d31\
 #[test]
 fn a_content_is_found_again(rt: HostRuntime) -> Result<(), Fail> {
     let mut vault = opened(&rt, blank(&rt)?)?;
-    let (_, writes, syncs) = vault.disk.calls();
+    let (_, writes, syncs) = vault.disk().calls();
     put(&rt, &mut vault, "demo/a", b"abc", 1)?;
-    let (_, more_writes, more_syncs) = vault.disk.calls();
+    let (_, more_writes, more_syncs) = vault.disk().calls();
     assert!(rt; writes <= more_writes && more_writes - writes == 4);
     assert!(rt; syncs <= more_syncs && more_syncs - syncs == 2);
     assert_eq!(rt; vault.front(), 1);
@@ -51,9 +51,9 @@ fn a_content_is_found_again(rt: HostRuntime) -> Result<(), Fail> {
 fn a_full_log_is_turned(rt: HostRuntime) -> Result<(), Fail> {
     let mut vault = opened(&rt, blank(&rt)?)?;
     put_often(&rt, &mut vault, "demo/a", b"abc", 255)?;
-    let (_, writes, syncs) = vault.disk.calls();
+    let (_, writes, syncs) = vault.disk().calls();
     put(&rt, &mut vault, "demo/a", b"abcd", 256)?;
-    let (_, more_writes, more_syncs) = vault.disk.calls();
+    let (_, more_writes, more_syncs) = vault.disk().calls();
     assert!(rt; writes <= more_writes && more_writes - writes == 8);
     assert!(rt; syncs <= more_syncs && more_syncs - syncs == 4);
     let again = opened(&rt, vault.close())?;
@@ -77,10 +77,10 @@ fn members_leave_the_queue(rt: HostRuntime) -> Result<(), Fail> {
     add_put(&rt, &mut rest, 2, "demo/a", b"")?;
     lead(&rt, &mut vault, &mut rest, &[3]);
     assert_eq!(rt; rest.len(), 0);
-    let before = vault.disk.calls();
+    let before = vault.disk().calls();
     let mut none = Queue::new(rt.alloc());
     lead(&rt, &mut vault, &mut none, &[]);
-    assert!(rt; vault.disk.calls() == before);
+    assert!(rt; vault.disk().calls() == before);
     let again = opened(&rt, vault.close())?;
     expect_state(&rt, &again, "demo/a", 0, 3);
     expect_state(&rt, &again, "demo/b", 4, 2);

@@ -3,7 +3,6 @@
 
 ghost use Rattle.std.specs.Prelude.{◌≡◌, ◌+◌, ◌≤◌, IfOk, length};
 ghost use Rattle.vault.specs.Pours.{AreWhole};
-ghost use Rattle.vault.specs.Vaults.{IsVault};
 
 use blob_base::{Bytes, Bytes64, Key, PAGE_BYTES};
 use disk_model::{Disk, Layout, MemDisk, Page};
@@ -32,9 +31,7 @@ pub(crate) fn formatted<R: Abort + AllocGlobal>(rt: &R, fails: Bytes64) -> Resul
 pub(crate) fn opened<R: Abort + AllocGlobal, D: Disk + Drop>(
     rt: &R,
     disk: D,
-) -> Result<Vault<D>, Fail>
-    ensures { IfOk result (λ vault. IsVault D.Disk vault.disk vault.memory vault.shut) }
-{
+) -> Result<Vault<D>, Fail> {
     match Vault::open(rt.alloc(), disk) {
         Ok(vault) => Ok(vault),
         Err(_) => Err(Fail::new("no store")),
@@ -80,9 +77,7 @@ pub(crate) fn lead<R: Abort + AllocGlobal, D: Disk>(
     queue: &mut Queue,
     numbers: &[u64],
 )
-    requires vault { IsVault D.Disk vault.old.disk vault.old.memory vault.old.shut }
     requires whole { AreWhole queue.old }
-    ensures vault { IsVault D.Disk vault.new.disk vault.new.memory vault.new.shut }
 {
     assert!(rt; queue.len() <= 16);
     match vault.lead(rt.alloc(), queue) {
@@ -106,10 +101,7 @@ pub(crate) fn put<R: Abort + AllocGlobal, D: Disk>(
     key: &str,
     content: &[u8],
     number: u64,
-) -> Result<(), Fail>
-    requires { IsVault D.Disk vault.old.disk vault.old.memory vault.old.shut }
-    ensures { IsVault D.Disk vault.new.disk vault.new.memory vault.new.shut }
-{
+) -> Result<(), Fail> {
     let mut queue = Queue::new(rt.alloc());
     add_put(rt, &mut queue, 0, key, content)?;
     lead(rt, vault, &mut queue, &[number]);
@@ -124,10 +116,7 @@ pub(crate) fn put_often<R: Abort + AllocGlobal, D: Disk>(
     key: &str,
     content: &[u8],
     count: u64,
-) -> Result<(), Fail>
-    requires { IsVault D.Disk vault.old.disk vault.old.memory vault.old.shut }
-    ensures { IsVault D.Disk vault.new.disk vault.new.memory vault.new.shut }
-{
+) -> Result<(), Fail> {
     'put: for i in 0..count {
         put(rt, vault, key, content, i + 1)?;
     }
@@ -139,10 +128,7 @@ pub(crate) fn verified<R: Abort, D: Disk>(
     rt: &R,
     vault: &mut Vault<D>,
     key: &Key,
-) -> Result<Verdict, GatherFault>
-    requires { IsVault D.Disk vault.old.disk vault.old.memory vault.old.shut }
-    ensures { IsVault D.Disk vault.new.disk vault.new.memory vault.new.shut }
-{
+) -> Result<Verdict, GatherFault> {
     let _ = vault.look(key).expect(rt, "a state");
     vault.verify(key)
 }

@@ -90,6 +90,35 @@ picked-behind layout half gate bytes entries base laid image first second =
       poured (inl content) = omega (arith, poured-data layout content.state 0 0 content.poured)
       poured (inr gate) = omega (arith, gate)
 
+-- A disk was at rest at a gate, a body was laid behind it and these are settled, and then any bytes came on the contents' pages and on
+-- that gate: this is what the second window may leave.
+pub InSecondWindow-laid : (pages : ℕ) (base laid image : Image) (found : Found) (half gate : ℕ) (bytes : List ℕ) (entries : List Entry) → HasPages base
+    → (at : IsAtGate pages base found half gate) → Spells (data_pages found.layout) bytes entries → GoesOn found.last entries → next_gate gate (length bytes) ≤ log_pages - 1
+    → HasPlaces found.layout found.states entries → HasRoomFor found.layout found.states entries
+    → SameOff (IsBodyPage half gate bytes) base laid → StandsBehind laid half gate bytes → SameOff (IsPouredPage found.layout half gate entries) laid image
+    → InSecondWindow pages base image found at.gives bytes entries
+InSecondWindow-laid pages base laid image found half gate bytes entries whole at spells goes_on fits places room first stands second =
+    let gives : Gives pages base found = at.gives in
+    let h : picked (base 0) ≡ half = at.half_is in
+    let n : gives.gate ≡ gate = at.gate_is in
+    let fits_here : next_gate gives.gate (length bytes) ≤ log_pages - 1 = omega (arith, n, fits) in
+    let stands_here : StandsBehind laid (picked (base 0)) gives.gate bytes =
+    subst (λ (k : ℕ). StandsBehind laid k gives.gate bytes) (sym h) (subst (λ (k : ℕ). StandsBehind laid half k bytes) (sym n) stands) in
+    record {
+      whole = whole;
+      lossless = at.lossless;
+      follows = record { spells = spells; goes_on = goes_on; fits = fits_here; places = places; room = room };
+      laid = laid;
+      stands = record {
+        same = subst (λ (k : ℕ). SameOff (IsBodyPage k gives.gate bytes) base laid) (sym h) (subst (λ (k : ℕ). SameOff (IsBodyPage half k bytes) base laid) (sym n) first);
+        body = IsBodyAt-standing laid (picked (base 0)) gives.gate entries bytes spells.bytes_are fits_here stands_here;
+        closed = closed-standing laid (picked (base 0)) gives.gate bytes stands_here;
+      };
+      same =
+          subst (λ (k : ℕ). SameOff (IsPouredPage found.layout k gives.gate entries) laid image) (sym h)
+          (subst (λ (k : ℕ). SameOff (IsPouredPage found.layout half k entries) laid image) (sym n) second);
+    }
+
 -- What a commit leaves that wrote a body and the next gate behind the gate where the disk was at rest, and then the contents and that
 -- gate, open: the disk stands at the next gate, with the store behind all the entries.
 pub IsAtGate-committed : (pages : ℕ) (base laid image : Image) (found : Found) (half gate : ℕ) (bytes : List ℕ) (entries : List Entry) → HasPages base
@@ -102,27 +131,9 @@ IsAtGate-committed pages base laid image found half gate bytes entries whole at 
     let gives : Gives pages base found = at.gives in
     let h : picked (base 0) ≡ half = at.half_is in
     let n : gives.gate ≡ gate = at.gate_is in
-    let fits_here : next_gate gives.gate (length bytes) ≤ log_pages - 1 = omega (arith, n, fits) in
-    let stands_here : StandsBehind laid (picked (base 0)) gives.gate bytes =
-    subst (λ (k : ℕ). StandsBehind laid k gives.gate bytes) (sym h) (subst (λ (k : ℕ). StandsBehind laid half k bytes) (sym n) stands) in
-    let first_here : SameOff (IsBodyPage (picked (base 0)) gives.gate bytes) base laid =
-    subst (λ (k : ℕ). SameOff (IsBodyPage k gives.gate bytes) base laid) (sym h) (subst (λ (k : ℕ). SameOff (IsBodyPage half k bytes) base laid) (sym n) first) in
-    let second_here : SameOff (IsPouredPage found.layout (picked (base 0)) gives.gate entries) laid image =
-    subst (λ (k : ℕ). SameOff (IsPouredPage found.layout k gives.gate entries) laid image) (sym h)
-    (subst (λ (k : ℕ). SameOff (IsPouredPage found.layout half k entries) laid image) (sym n) second) in
     let opened_here : image (at_log (picked (base 0)) gives.gate) ≡ open_page =
     subst (λ (k : ℕ). image (at_log k gives.gate) ≡ open_page) (sym h) (subst (λ (k : ℕ). image (at_log half k) ≡ open_page) (sym n) opened) in
-    let window : InSecondWindow pages base image found gives bytes entries = record {
-      whole = whole;
-      lossless = at.lossless;
-      follows = record { spells = spells; goes_on = goes_on; fits = fits_here; places = places; room = room };
-      laid = laid;
-      stands = record {
-        same = first_here;
-        body = IsBodyAt-standing laid (picked (base 0)) gives.gate entries bytes spells.bytes_are fits_here stands_here;
-        closed = closed-standing laid (picked (base 0)) gives.gate bytes stands_here;
-      };
-      same = second_here;
-    } in
+    let window : InSecondWindow pages base image found gives bytes entries =
+    InSecondWindow-laid pages base laid image found half gate bytes entries whole at spells goes_on fits places room first stands second in
     IsAtGate-behind pages base image found bytes entries gives window (open-opened image (picked (base 0)) gives.gate opened_here) verify half gate h n
     (picked-behind found.layout half gate bytes entries base laid image first second ∙ h)

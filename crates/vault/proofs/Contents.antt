@@ -18,6 +18,7 @@ use Rattle.store_model.specs.Placing.{Placed, new_place}
 use Rattle.store_model.specs.Reading.{DoesVerify, DoesWriteVerify}
 use Rattle.store_model.specs.State.{State}
 use Rattle.store_model.specs.Store.{Placement}
+use Rattle.store_model.specs.Windows.{IsPouredPage}
 use Rattle.store_model.proofs.SetLaws.{among-behind, among-first}
 use Rattle.store_model.proofs.SortedLaws.{find-at}
 use Rattle.store_model.proofs.VerifyLaws.{Verifies-Holds}
@@ -25,7 +26,7 @@ use Rattle.txn.specs.Txns.{NoAppends, is_append}
 use Rattle.txn.specs.declared.change.Change.{Change}
 use Rattle.txn.specs.declared.change.Change.TheVariants as change
 use Rattle.txn.specs.declared.request.Request.{Request}
-use Rattle.vault.specs.Pours.{AreWrittenBy, IsPourPage, Pour, Poured, pours_by, pours_of, pours_of_all}
+use Rattle.vault.specs.Pours.{AreWrittenBy, IsPourPage, IsSecondPage, Pour, Poured, pours_by, pours_of, pours_of_all}
 use Rattle.vault.proofs.Pourings.{written_pours}
 
 -- a page that one of two lists is poured to
@@ -97,6 +98,12 @@ content-page layout (request ∷ requests) (e ∷ es) p page =
             poured = content.poured;
           })
     ]
+
+-- So a page that is written in the second window is one that may be poured to.
+pub second-poured_page : (layout : Layout) (half gate : ℕ) (requests : List Request) (es : List Entry) (p : ℕ)
+    → IsSecondPage layout (pours_of_all (zip requests es)) half gate p → IsPouredPage layout half gate (model_entries es) p
+second-poured_page layout half gate requests es p (inl page) = inl (content-page layout requests es p page)
+second-poured_page layout half gate requests es p (inr is) = inr is
 
 -- what holds of all of two lists
 All-left : {X : Type 0} (P : X → Type 0) (xs ys : List X) → All P (xs ++ ys) → All P xs

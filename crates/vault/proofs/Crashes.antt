@@ -1,8 +1,9 @@
 -- A crash in a turn or in an opening leaves the store that there was.
-use Rattle.std.proofs.Common.{◌≡◌, ℕ, ◌-◌, ◌≤◌, IsTrue, Option, Some, None, inl, inr, refl, sym, subst, arith}
+use Rattle.std.proofs.Common.{◌≡◌, ℕ, ◌-◌, ◌≤◌, ◌⊎◌, IsTrue, Option, Some, None, inl, inr, refl, sym, subst, arith}
 use Rattle.std.specs.FinMap.{FinMap, get}
+use Rattle.disk_model.specs.Disks.{OnlyReads}
 use Rattle.disk_model.specs.declared.disk.Disk.{Ghosts}
-use Rattle.recover.specs.Openings.{LeavesOpening, LeavesSince}
+use Rattle.recover.specs.Openings.{LeavesFrom}
 use Rattle.recover.specs.Turns.{InTurn, ReadsThrough, found_by}
 use Rattle.recover.proofs.Survivals.{Turn-leaves}
 use Rattle.store_model.specs.Disk.{Image}
@@ -70,18 +71,21 @@ Turn-survives g old new mine store tells vault stands held turned =
     (Turn-leaves g mine.layout half mine.last mine.relation.states old new tells turned rest.settled (rest.at.gives, rest.at.apart) (omega (arith, rest.at.half_is, two)) (omega arith) vault.fits)
 
 -- A crash in an opening leaves the store that the disk read as.
-pub Since-survives : {D : Type 0} (g : Ghosts D) (old new : D) (layout : Layout) (store : model.Store) (told : ReadsAs (g.size old) (g.story old).reads layout store.objects store.last)
-    → LeavesSince g (ReadsThrough (g.size old) told.found (1 - picked ((g.story old).reads 0)) (g.story old).reads) old new
-    → LeavesSince g (λ image. ReadsAs (g.size old) image layout store.objects store.last) old new
-Since-survives g old new layout store told since = record {
-  past = since.past;
+pub From-survives : {D : Type 0} (g : Ghosts D) (old new : D) (layout : Layout) (store : model.Store) (since : ℕ)
+    (told : ReadsAs (g.size old) (g.story old).reads layout store.objects store.last)
+    → LeavesFrom g (ReadsThrough (g.size old) told.found (1 - picked ((g.story old).reads 0)) (g.story old).reads) since new
+    → LeavesFrom g (λ image. ReadsAs (g.size old) image layout store.objects store.last) since new
+From-survives g old new layout store since told from = record {
+  past = from.past;
   each = λ image left.
       ReadsAs-through (g.size old) (g.story old).reads image layout store.objects store.last (1 - picked ((g.story old).reads 0)) told.found (omega arith) told refl
-      (since.each image left);
+      (from.each image left);
 }
 
-pub Opening-survives : {D : Type 0} (g : Ghosts D) (old new : D) (layout : Layout) (store : model.Store) (told : ReadsAs (g.size old) (g.story old).reads layout store.objects store.last)
-    → LeavesOpening g (ReadsThrough (g.size old) told.found (1 - picked ((g.story old).reads 0)) (g.story old).reads) old new
-    → LeavesOpening g (λ image. ReadsAs (g.size old) image layout store.objects store.last) old new
-Opening-survives g old new layout store told (inr unsynced) = inr unsynced
-Opening-survives g old new layout store told (inl since) = inl (Since-survives g old new layout store told since)
+pub Opening-survives : {D : Type 0} (g : Ghosts D) (old new : D) (layout : Layout) (store : model.Store) (since : ℕ)
+    (told : ReadsAs (g.size old) (g.story old).reads layout store.objects store.last)
+    → LeavesFrom g (ReadsThrough (g.size old) told.found (1 - picked ((g.story old).reads 0)) (g.story old).reads) since new
+    ⊎ (OnlyReads g old new × ((g.story new).time ≤ since))
+    → LeavesFrom g (λ image. ReadsAs (g.size old) image layout store.objects store.last) since new ⊎ (OnlyReads g old new × ((g.story new).time ≤ since))
+Opening-survives g old new layout store since told (inr unsynced) = inr unsynced
+Opening-survives g old new layout store since told (inl from) = inl (From-survives g old new layout store since told from)

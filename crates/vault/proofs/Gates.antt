@@ -14,8 +14,8 @@ use Rattle.store_model.specs.Log.{body_pages}
 use Rattle.store_model.specs.LogReading.{AreBodies, StoredBody, gate_is_open}
 use Rattle.store_model.specs.Reading.{AreKept, Found, Opened, Reads}
 use Rattle.store_model.specs.Windows.{IsBodyPage}
-use Rattle.recover.specs.Turns.{IsTurnPage, IsTurned}
-use Rattle.vault.specs.Vaults.{HasLaid, InFirst, IsAtGate, IsAtRest, SameHeld, StandsBehind, found_of}
+use Rattle.recover.specs.Turns.{IsTurned}
+use Rattle.vault.specs.Vaults.{HasLaid, InFirst, IsAtGate, IsAtRest, MayHaveTurned, SameHeld, StandsBehind, found_of}
 use Rattle.vault.specs.declared.memory.Memory.{Memory}
 
 -- a log whose first gate is closed has no bodies
@@ -78,13 +78,13 @@ IsAtRest-same pages story old new same half gate rest =
 
 -- A turn may have failed before anything of the body was written.
 pub InFirst-none : {D : Type 0} (g : Ghosts D) (before : Memory) (bytes : List ℕ) (old new : D) → body_pages (length bytes) ≤ 510
-    → OnlyWrites g (IsTurnPage before.layout (1 - before.log.half)) old new → InFirst g before bytes old new
+    → MayHaveTurned g before old new → InFirst g before bytes old new
 InFirst-none g before bytes old new short turned =
     record { half = 0; gate = 0; two = omega arith; fits = omega (arith, short); base = new; turned = turned; start = inl refl; wrote = OnlyWrites-none g (IsBodyPage 0 0 bytes) new }
 
 -- Or it was written, or a part of it, from where the disk was at rest with memory that has the same store.
 pub InFirst-from : {D : Type 0} (g : Ghosts D) (before mid : Memory) (bytes : List ℕ) (old base new : D) → SameHeld before mid
-    → mid.log.half < 2 → body_pages (length bytes) + 1 ≤ 511 - mid.log.gate → OnlyWrites g (IsTurnPage before.layout (1 - before.log.half)) old base
+    → mid.log.half < 2 → body_pages (length bytes) + 1 ≤ 511 - mid.log.gate → MayHaveTurned g before old base
     → (IsTrue g.tells → IsAtRest (g.size old) (g.story old) before → IsAtRest (g.size base) (g.story base) mid)
     → OnlyWrites g (IsBodyPage mid.log.half mid.log.gate bytes) base new → InFirst g before bytes old new
 InFirst-from g before mid bytes old base new same two room turned rest wrote = record {
@@ -103,7 +103,7 @@ InFirst-from g before mid bytes old base new same two room turned rest wrote = r
 -- What is so of a body that was laid behind the gate that memory had, where it has the same gate now.
 module _ {D : Type 0} (g : Ghosts D) (before mid now : Memory) (bytes : List ℕ) (old base new : D) (same : SameHeld mid now)
     (half : now.log.half ≡ mid.log.half) (gate : now.log.gate ≡ mid.log.gate) where
-  pub HasLaid-behind : OnlyWrites g (IsTurnPage before.layout (1 - before.log.half)) old base
+  pub HasLaid-behind : MayHaveTurned g before old base
       → (IsTrue g.tells → IsAtRest (g.size old) (g.story old) before → IsAtRest (g.size base) (g.story base) mid)
       → OnlyWrites g (IsBodyPage mid.log.half mid.log.gate bytes) base new → (IsTrue g.tells → Settled (g.story new))
       → (IsTrue g.tells → StandsBehind (g.story new).reads mid.log.half mid.log.gate bytes) → HasLaid g before now bytes old base new

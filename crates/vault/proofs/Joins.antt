@@ -1,5 +1,5 @@
 -- The two windows of a commit, joined.
-use Rattle.std.proofs.Common.{◌≡◌, ℕ, zero, suc, ◌+◌, ◌<◌, ◌≤◌, IsTrue, List, [], ◌∷◌, length, zip, Option, Some, None, inl, inr, refl, sym, ◌∙◌, subst, arith}
+use Rattle.std.proofs.Common.{◌≡◌, ℕ, zero, suc, ◌+◌, ◌<◌, ◌≤◌, IsTrue, List, [], ◌∷◌, length, zip, Option, Some, None, inr, refl, sym, ◌∙◌, subst, arith}
 use Rattle.std.specs.Prelude.{slice_get}
 use Rattle.std.specs.List.{All, AllZip, cons_option}
 use Rattle.std.proofs.lemmas.List.Elements.{All-cons, All-head, All-nil, All-tail}
@@ -21,7 +21,7 @@ use Rattle.vault.specs.Pours.{AreWhole, AreWrittenBy, IsSecondPage, Pour, Poured
 use Rattle.vault.specs.Vaults.{HasLaid, InWindows, IsAtGate, IsAtRest, IsCommitted, IsNextFrame, SameHeld, found_of}
 use Rattle.vault.specs.declared.memory.Memory.{Memory}
 use Rattle.vault.proofs.Commits.{IsAtGate-committed}
-use Rattle.vault.proofs.Contents.{content-page, entries-verify}
+use Rattle.vault.proofs.Contents.{entries-verify, second-poured_page}
 use Rattle.vault.proofs.Gates.{found-same}
 
 -- the requests at places of a queue without appends have none
@@ -60,7 +60,7 @@ module _ {D : Type 0} (g : Ghosts D) (before mid now : Memory) (bytes : List ℕ
       let start = g.story base in
       let image : Image = (g.story new).reads in
       let second : SameOff (IsPouredPage mid.layout mid.log.half mid.log.gate entries) (g.story laid).reads image =
-      λ p other. (wrote.wrote tells).reads p (λ page. other (second-page mid.layout mid.log.half mid.log.gate p page)) in
+      λ p other. (wrote.wrote tells).reads p (λ page. other (second-poured_page mid.layout mid.log.half mid.log.gate (requests_at queue places) es p page)) in
       let at : IsAtGate (g.size base) image (with_frame (found_of mid) entries entries) mid.log.half (next_gate mid.log.gate (length bytes)) =
       IsAtGate-committed (g.size base) start.reads (g.story laid).reads image (found_of mid) mid.log.half mid.log.gate bytes entries (start.pages start.time start.reads start.own)
       rest.at frame.spells frame.goes_on (omega (arith, next, most)) frame.places frame.room (has.wrote.wrote tells).reads (has.stands tells) second opened
@@ -74,10 +74,7 @@ module _ {D : Type 0} (g : Ghosts D) (before mid now : Memory) (bytes : List ℕ
             (subst (λ (h : ℕ). IsAtGate (g.size base) image (with_frame (found_of mid) entries entries) h now.log.gate) (sym half)
             (subst (λ (n : ℕ). IsAtGate (g.size base) image (with_frame (found_of mid) entries entries) mid.log.half n) (sym gate_now) at)));
         settled = settled;
-      } where
-        second-page : (layout : Layout) (h n p : ℕ) → IsSecondPage layout (pours_of_all (zip (requests_at queue places) es)) h n p → IsPouredPage layout h n (model_entries es) p
-        second-page layout h n p (inl page) = inl (content-page layout (requests_at queue places) es p page)
-        second-page layout h n p (inr is) = inr is
+      }
 
   -- And both windows were written, or a part of the second one.
   pub InWindows-joined : (pours : List Pour) → SameHeld before mid → mid.log.half < 2 → mid.log.gate + 1 + body_pages (length bytes) ≤ 511 → OnlyWrites g (IsSecondPage mid.layout pours mid.log.half mid.log.gate) laid new
@@ -97,7 +94,13 @@ module _ {D : Type 0} (g : Ghosts D) (before mid now : Memory) (bytes : List ℕ
       wrote = has.wrote;
     };
     second = inr (
-      has.settled,
+      (λ tells. record {
+        at = λ was.
+            let rest = has.rest tells was in
+            (subst (λ (f : Found). IsAtGate (g.size base) (g.story base).reads f mid.log.half mid.log.gate) (found-same before mid same) rest.at, rest.settled);
+        settled = has.settled tells;
+        stands = has.stands tells;
+      }),
       subst (λ (layout : Layout). OnlyWrites g (IsSecondPage layout pours mid.log.half mid.log.gate) laid new) same.layout wrote,
     );
   }

@@ -14,6 +14,7 @@ pub mod Freeing
 pub mod Following
 pub mod Committing
 pub mod Survivals
+pub mod Turnings
 pub mod Gates
 pub mod Seconds
 pub mod Commits
@@ -35,4 +36,9 @@ pub mod Sizes
 pub mod Costings
 pub mod Readings
 pub mod Crashes
+pub mod Restings
 pub mod Keepings
+pub mod Lasting
+pub mod Written
+pub mod LeadImages
+pub mod LeadCrashes

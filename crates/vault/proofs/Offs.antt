@@ -18,6 +18,7 @@ use Rattle.store_model.proofs.PlaceLaws.{owners-append}
 use Rattle.vault.specs.Vaults.{InWindows}
 use Rattle.vault.specs.declared.memory.Memory.{Memory}
 use Rattle.vault.proofs.Pourings.{pour_page-owned}
+use Rattle.vault.proofs.Turnings.{turned-wrote}
 
 -- no page of a half's states is one of the data area
 states-before : (layout : Layout) (half p : ℕ) → half ≤ 1 → p < states_page layout half + layout.room → data_page layout ≤ p → ⊥
@@ -63,7 +64,7 @@ module _ {D : Type 0} (g : Ghosts D) (before : Memory) (bytes : List ℕ) (pours
       ] in
       late
       ∙ (first.wrote.wrote tells).reads p (body-before before.layout first.half first.gate p bytes first.two first.fits past)
-      ∙ (first.turned.wrote tells).reads p (turn-before before.layout (1 - before.log.half) p (omega arith) past)
+      ∙ ((turned-wrote g old first.base before first.turned).wrote tells).reads p (turn-before before.layout (1 - before.log.half) p (omega arith) past)
 
 -- each page of contents is one of the data area that their blocks own
 pour_page-within : (layout : Layout) (pours : List Pour) (p : ℕ) → AreBlocks (data_pages layout) (pour_blocks pours) → IsPourPage layout pours p
@@ -108,7 +109,7 @@ module _ {D : Type 0} (g : Ghosts D) (before : Memory) (bytes : List ℕ) (pours
       let most : first.gate ≤ 511 = omega (arith, first.fits) in
       let turned : OnlyWrites g (IsLeadPage layout taken) old first.base =
       OnlyWrites-wider g (IsTurnPage layout (1 - before.log.half)) (IsLeadPage layout taken) old first.base
-      (λ p page. turn-page layout taken (1 - before.log.half) p (omega arith) page) first.turned in
+      (λ p page. turn-page layout taken (1 - before.log.half) p (omega arith) page) (turned-wrote g old first.base before first.turned) in
       let laid : OnlyWrites g (IsLeadPage layout taken) old windows.mid =
       OnlyWrites-more g (IsBodyPage first.half first.gate bytes) (IsLeadPage layout taken) old first.base windows.mid
       (λ p page. body_page-lead layout taken first.half first.gate p bytes first.two first.fits page) turned first.wrote in

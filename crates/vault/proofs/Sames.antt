@@ -1,5 +1,5 @@
 -- What is so of memory that has the same store, whatever memory its relation has spare.
-use Rattle.std.proofs.Common.{◌≡◌, ℕ, ◌-◌, ◌≤◌, List, length, Option, Some, inl, inr, refl, sym, ◌∙◌, ap, subst, arith}
+use Rattle.std.proofs.Common.{◌≡◌, ℕ, ◌≤◌, List, length, Option, Some, inl, inr, refl, sym, ◌∙◌, ap, subst, arith}
 use Rattle.std.specs.Prelude.{IfSome}
 use Rattle.std.specs.FinMap.{FinMap}
 use Rattle.std.specs.List.Sorted.{IsPermutation}
@@ -8,7 +8,6 @@ use Rattle.disk_model.specs.declared.disk.Disk.{Ghosts}
 use Rattle.disk_model.proofs.DiskLaws.{OnlyWrites-none}
 use Rattle.extent_alloc.specs.Parts.{Parts as SpaceParts}
 use Rattle.meta_log.specs.Logs.{Parts}
-use Rattle.recover.specs.Turns.{IsTurnPage}
 use Rattle.relation.specs.Parts.{Parts as RelationParts, owned_by}
 use Rattle.store_model.specs.Half.{IsHalf}
 use Rattle.store_model.specs.Key.{key_order}
@@ -23,6 +22,7 @@ use Rattle.vault.specs.Pours.{IsSecondPage, Pour}
 use Rattle.vault.specs.Vaults.{InWindows, IsAtGate, IsAtRest, IsHeld, IsVault, SameStore, found_of}
 use Rattle.vault.specs.declared.fault.Cause.{Cause}
 use Rattle.vault.specs.declared.memory.Memory.{Memory}
+use Rattle.vault.proofs.Turnings.{turned-none, turned-same, turned-wrote}
 
 -- A disk is at rest with it.
 pub IsAtRest-found : (pages : ℕ) (story : Story) (a b : Memory) → found_of a ≡ found_of b → a.log ≡ b.log → IsAtRest pages story a → IsAtRest pages story b
@@ -46,9 +46,7 @@ module _ {D : Type 0} (g : Ghosts D) (bytes : List ℕ) (pours : List Pour) (old
           two = first.two;
           fits = first.fits;
           base = first.base;
-          turned =
-              subst (λ (l : Layout). OnlyWrites g (IsTurnPage l (1 - b.log.half)) old first.base) layout
-              (subst (λ (l : Parts). OnlyWrites g (IsTurnPage a.layout (1 - l.half)) old first.base) log first.turned);
+          turned = turned-same g old first.base a b found log first.turned;
           start = elim first.start [
             | inl same ↦ inl same
             | inr from ↦ inr (λ tells was.
@@ -59,14 +57,26 @@ module _ {D : Type 0} (g : Ghosts D) (bytes : List ℕ) (pours : List Pour) (old
         };
         second = elim windows.second [
           | inl same ↦ inl same
-          | inr both ↦ inr (both.0, subst (λ (l : Layout). OnlyWrites g (IsSecondPage l pours first.half first.gate) windows.mid new) layout both.1)
+          | inr both ↦
+              inr (
+                (λ tells.
+                    let begins = both.0 tells in
+                    record {
+                      at = λ was.
+                          let at = begins.at (IsAtRest-found (g.size old) (g.story old) b a (sym found) (sym log) was) in
+                          (subst (λ (f : Found). IsAtGate (g.size first.base) (g.story first.base).reads f first.half first.gate) found at.0, at.1);
+                      settled = begins.settled;
+                      stands = begins.stands;
+                    }),
+                subst (λ (l : Layout). OnlyWrites g (IsSecondPage l pours first.half first.gate) windows.mid new) layout both.1,
+              )
         ];
       }
 
   -- The disk keeps its size.
   pub InWindows-size : (a : Memory) → InWindows g a bytes pours old new → g.size new ≡ g.size old
   InWindows-size a windows =
-      let first : g.size windows.mid ≡ g.size old = windows.first.wrote.keeps.size ∙ windows.first.turned.keeps.size in
+      let first : g.size windows.mid ≡ g.size old = windows.first.wrote.keeps.size ∙ (turned-wrote g old windows.first.base a windows.first.turned).keeps.size in
       elim windows.second [
         | inl same ↦ ap g.size same ∙ first
         | inr both ↦ both.1.keeps.size ∙ first
@@ -83,7 +93,7 @@ InWindows-none g before bytes pours disk short = record {
     two = omega arith;
     fits = omega (arith, short);
     base = disk;
-    turned = OnlyWrites-none g (IsTurnPage before.layout (1 - before.log.half)) disk;
+    turned = turned-none g before disk;
     start = inl refl;
     wrote = OnlyWrites-none g (IsBodyPage 0 0 bytes) disk;
   };

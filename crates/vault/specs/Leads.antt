@@ -18,7 +18,7 @@ use Rattle.store_model.specs.Store as model
 use Rattle.store_model.specs.World.{states_bytes}
 use Rattle.txn.specs.declared.request.Request.{Request}
 use Rattle.vault.specs.Pours.{AreAt, made_by, pours_of_all, requests_at}
-use Rattle.vault.specs.Vaults.{InWindows}
+use Rattle.vault.specs.Vaults.{InWindows, IsNextFrame, found_of}
 use Rattle.vault.specs.declared.memory.Memory.{Memory}
 
 -- Memory is at this store.
@@ -51,12 +51,14 @@ pub record Led {D : Type 0} (g : Ghosts D) (old new : D) (before : Memory) (stor
   pub wrote : OnlyWrites g (IsLeadPage before.layout (taken_blocks (commits_of members))) old new
   pub costs : (cost : Cost) → cost.gate ≡ before.log.gate → Costs g cost (with_lead store (commits_of members) cost) old new mine
 
--- What a lead may have written, at whatever moment it ended: the frame of the group's entries and the contents of its requests.
+-- What a lead may have written, at whatever moment it ended: the frame of the group's entries, which may follow the store as its next one,
+-- and the contents of its requests.
 pub record MayHaveWritten {D : Type 0} (g : Ghosts D) (before : Memory) (queue : List Request) (members : List Member) (old new : D) : Type 0 where
   pub entries : List Entry
   pub places : List ℕ
   pub are : AllZip IsEntryOf (committed queue members) entries
   pub at : AreAt queue entries places
+  pub frame : IsNextFrame (found_of before) (body_spelling (model_entries entries)) (model_entries entries)
   pub windows : InWindows g before (body_spelling (model_entries entries)) (pours_of_all (zip (requests_at queue places) entries)) old new
 
 -- A store of this layout was opened: memory is at it, and the disk holds its contents.

@@ -1,6 +1,9 @@
+pub mod Codes
 pub mod Pours
 pub mod Faults
 pub mod Vaults
 pub mod Leads
 pub mod Knows
 pub mod Keeps
+pub mod Frames
+pub mod Crashes

@@ -2,9 +2,9 @@
 use Rattle.std.specs.Prelude.{ℕ, ◌≡◌, ◌+◌, ◌-◌, ◌<◌, ◌≤◌, ◌⊎◌, nat_lt, if◌then◌else◌, IfSome, IsTrue, List, length, Option, None, option_map}
 use Rattle.std.specs.FinMap.{FinMap, get}
 use Rattle.std.specs.List.Sorted.{IsPermutation}
-use Rattle.disk_model.specs.Disks.{OnlyWrites}
+use Rattle.disk_model.specs.Disks.{OnlyReads, OnlyWrites}
 use Rattle.disk_model.specs.declared.disk.Disk.{Ghosts}
-use Rattle.recover.specs.Turns.{IsTurnPage}
+use Rattle.recover.specs.Turns.{InTurn}
 use Rattle.meta_log.specs.Logs.{Parts}
 use Rattle.relation.specs.Parts.{owned_by}
 use Rattle.store_model.specs.Dependence.{LosesNone}
@@ -105,27 +105,39 @@ pub record StandsBehind (image : Image) (half gate : ℕ) (bytes : List ℕ) : T
   pub pages : (i : ℕ) → i < body_pages (length bytes) → image (at_log half (gate + 1 + i)) ≡ body_page bytes i
   pub closed : image (at_log half (gate + 1 + body_pages (length bytes))) ≡ zero_page
 
+-- Where the log had no room the disk was turned, or a part of the turn was written; where it had, nothing was.
+abbrev pub MayHaveTurned : {D : Type 0} → Ghosts D → Memory → D → D → Type 0
+MayHaveTurned g before old base = OnlyReads g old base ⊎ InTurn g before.layout (1 - before.log.half) before.last before.relation.states old base
+
 -- A body was laid: where the log had no room for it the disk was turned; then it was at rest, with the gate where memory has it now;
 -- and from there on the body's pages were written, and the next gate, and these are settled.
 pub record HasLaid {D : Type 0} (g : Ghosts D) (before now : Memory) (bytes : List ℕ) (old base new : D) : Type 0 where
-  pub turned : OnlyWrites g (IsTurnPage before.layout (1 - before.log.half)) old base
+  pub turned : MayHaveTurned g before old base
   pub rest : IsTrue g.tells → IsAtRest (g.size old) (g.story old) before → IsAtRest (g.size base) (g.story base) now
   pub wrote : OnlyWrites g (IsBodyPage now.log.half now.log.gate bytes) base new
   pub settled : IsTrue g.tells → Settled (g.story new)
   pub stands : IsTrue g.tells → StandsBehind (g.story new).reads now.log.half now.log.gate bytes
 
--- The first window of a commit, or a part of it: the pages of a turn may have been written. Where any page of the body was, or the next
--- gate, the disk was at rest before, with the store that memory had, at the gate behind which they stand.
+-- The first window of a commit, or a part of it: the disk may have been turned, or a part of the turn written. Where any page of the
+-- body was, or the next gate, the disk was at rest before, with the store that memory had, at the gate behind which they stand.
 pub record InFirst {D : Type 0} (g : Ghosts D) (before : Memory) (bytes : List ℕ) (old new : D) : Type 0 where
   pub half : ℕ
   pub gate : ℕ
   pub two : half < 2
   pub fits : gate + 1 + body_pages (length bytes) ≤ 511
   pub base : D
-  pub turned : OnlyWrites g (IsTurnPage before.layout (1 - before.log.half)) old base
+  pub turned : MayHaveTurned g before old base
   pub start : (new ≡ base) ⊎ (IsTrue g.tells → IsAtRest (g.size old) (g.story old) before
       → IsAtGate (g.size base) (g.story base).reads (found_of before) half gate × Settled (g.story base))
   pub wrote : OnlyWrites g (IsBodyPage half gate bytes) base new
+
+-- The second window of a commit begins: the disk was at rest with the store that memory had, at this gate of this half, before the body
+-- was written; and the body stands behind that gate, with the next gate closed, and a crash leaves just that.
+pub record BeginsSecond {D : Type 0} (g : Ghosts D) (before : Memory) (bytes : List ℕ) (half gate : ℕ) (old base mid : D) : Type 0 where
+  pub at : IsAtRest (g.size old) (g.story old) before
+      → IsAtGate (g.size base) (g.story base).reads (found_of before) half gate × Settled (g.story base)
+  pub settled : Settled (g.story mid)
+  pub stands : StandsBehind (g.story mid).reads half gate bytes
 
 -- These entries may follow a store as its next frame, with these bytes as their body: their numbers go on, the states that they set have
 -- new places, and a half has room for the states, whichever of the entries are kept.
@@ -141,11 +153,12 @@ pub record IsCommitted (pages : ℕ) (story : Story) (mine : Memory) (entries : 
   pub settled : Settled story
 
 -- What a commit may have written, at whatever moment it ended: in the first window the pages of a turn and then those of a body; and
--- where that window was closed by a sync, in the second the pages of contents and the gate.
+-- where that window was closed by a sync, and the body stands, in the second the pages of contents and the gate.
 pub record InWindows {D : Type 0} (g : Ghosts D) (before : Memory) (bytes : List ℕ) (pours : List Pour) (old new : D) : Type 0 where
   pub mid : D
   pub first : InFirst g before bytes old mid
-  pub second : (new ≡ mid) ⊎ ((IsTrue g.tells → Settled (g.story mid)) × OnlyWrites g (IsSecondPage before.layout pours first.half first.gate) mid new)
+  pub second : (new ≡ mid) ⊎ ((IsTrue g.tells → BeginsSecond g before bytes first.half first.gate old first.base mid)
+      × OnlyWrites g (IsSecondPage before.layout pours first.half first.gate) mid new)
 
 -- Nothing was written, and the store is as before, and so is the log; and the vault is shut where it was.
 pub record IsUnmade {D : Type 0} (old new : D) (before now : Memory) (was is : Option Cause) : Type 0 where

@@ -25,6 +25,7 @@ ghost use Rattle.store_model.specs.Space.{Apart, AreBlocks};
 ghost use Rattle.store_model.specs.Standing.{AllHeld};
 ghost use Rattle.store_model.specs.Store.{Store as ModelStore};
 ghost use Rattle.store_model.specs.Survival.{ReadsAs};
+ghost use Rattle.vault.specs.Crashes.{LeadRests, LeadSurvives};
 ghost use Rattle.vault.specs.Faults.{IsShutBy, cause_of as model_cause};
 ghost use Rattle.vault.specs.declared.fault.LeadFault.TheVariants.{Shut};
 ghost use Rattle.vault.specs.declared.fault.LeadFault.TheVariants as lead_fault;
@@ -34,17 +35,17 @@ ghost use Rattle.vault.specs.Pours.{AreAt, AreWhole, HasRoom, Poured, pour_block
 ghost use Rattle.vault.specs.Vaults.{InWindows, IsNextFrame, IsSound, IsUnmade, IsVault, SameHeld, found_of, turn_pages, turn_syncs, turned_gate, turned_log};
 
 use crate::fault::{Cause, LeadFault};
+use crate::inner::Core;
 use crate::knowing::entries_rules;
 use crate::leaving::leave;
 use crate::making::give_back_all;
-use crate::vault::Vault;
 use blob_base::Listed;
 use disk_model::Disk;
 use frame_codec::{Entries, MAX_WRITES, encode_frame};
 use group_plan::{Plan, Queue, Replies, plan_group};
 use std::alloc::Global;
 
-impl<D: Disk> Vault<D> {
+impl<D: Disk> Core<D> {
     // Writes entries and their contents, and makes them in the states. Memory is taken before the first write.
     fn commit(
         &mut self,
@@ -69,6 +70,8 @@ impl<D: Disk> Vault<D> {
         ensures last { OnOk result (self.new.memory.last ≡ self.old.memory.last + length entries) }
         ensures ok { OnOk result (self.new.shut ≡ None) }
         ensures poured { IsTrue D.tells → OnOk result (All (Poured (D.story self.new.disk).reads self.old.memory.layout) (pours_of_all (zip (requests_at queue.now members.now) entries))) }
+        // The entries may follow as the next frame, and what was written is theirs.
+        ensures frame { IsNextFrame (found_of self.old.memory) (body_spelling (model_entries entries)) (model_entries entries) }
         ensures windows { InWindows D.Disk self.old.memory (body_spelling (model_entries entries)) (pours_of_all (zip (requests_at queue.now members.now) entries)) self.old.disk self.new.disk }
         ensures calls { IsTrue D.tells → OnOk result
             (Took 0
@@ -115,7 +118,7 @@ impl<D: Disk> Vault<D> {
     /// Commits the group at the front of a queue, takes its members out of the queue, and answers the replies to them. A group
     /// without a committing member writes nothing, and nor does a shut vault. Where there is no memory, nothing was written, and
     /// all is as before.
-    pub fn lead(&mut self, alloc: Global, queue: &mut Queue) -> Result<Replies, LeadFault>
+    pub(crate) fn lead(&mut self, alloc: Global, queue: &mut Queue) -> Result<Replies, LeadFault>
         requires vault { IsVault D.Disk self.old.disk self.old.memory self.old.shut }
         requires whole { AreWhole queue.old }
         requires few { length queue.old ≤ 16 }
@@ -134,6 +137,13 @@ impl<D: Disk> Vault<D> {
         ensures left { IfOk result (λ replies. queue.new ≡ drop (length replies) queue.old) }
         ensures stays { OnErr result (queue.new ≡ queue.old) }
         ensures ok { OnOk result (self.new.shut ≡ None) }
+
+        // Whatever it answers, a crash at any moment of it leaves the store that it had, or that one with some whole transactions of the
+        // group.
+        ensures survives { IsTrue D.tells → self.old.shut ≡ None → LeadSurvives D.Disk self.old.memory queue.old self.old.disk self.new.disk }
+
+        // Where it ended well, the disk rests at the store behind the group.
+        ensures rests { IsTrue D.tells → OnOk result (LeadRests D.Disk self.old.memory queue.old self.old.disk self.new.disk) }
 
         // What is kept of the group: its committed requests and its last number, or the body of a lead that has failed.
         ensures kept { IfOk result (λ replies. HasKept (committed queue.old (members_of (ledger_in self.old.memory) queue.old)) self.new.memory.last

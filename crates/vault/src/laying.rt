@@ -6,7 +6,6 @@ ghost use Rattle.std.specs.List.Sorted.{IsPermutation};
 ghost use Rattle.disk_model.specs.Disks.{Caused, OnlyWrites};
 ghost use Rattle.frame_codec.specs.Values.{model_entries};
 ghost use Rattle.recover.specs.Openings.{IsFound};
-ghost use Rattle.recover.specs.Turns.{IsTurnPage};
 ghost use Rattle.relation.specs.Changes.{with_entries};
 ghost use Rattle.relation.specs.Parts.{encoded_by, owned_by};
 ghost use Rattle.store_model.specs.Disk.{Took, page_bytes};
@@ -19,7 +18,7 @@ ghost use Rattle.store_model.specs.Space.{Apart, AreBlocks};
 ghost use Rattle.store_model.specs.State.{greatest_number};
 ghost use Rattle.store_model.specs.Windows.{IsBodyPage};
 ghost use Rattle.vault.specs.Pours.{AreAt, AreWhole, HasRoom, IsSecondPage, Poured, pour_blocks, pour_pages, pours_of_all, requests_at};
-ghost use Rattle.vault.specs.Vaults.{HasLaid, InFirst, InWindows, IsAtRest, IsCommitted, IsHeld, IsNextFrame, IsSound, SameHeld, SameStore, StandsBehind, found_of, turn_pages, turn_syncs, turned_gate, turned_log};
+ghost use Rattle.vault.specs.Vaults.{HasLaid, InFirst, InWindows, IsAtRest, IsCommitted, IsHeld, IsNextFrame, IsSound, MayHaveTurned, SameHeld, SameStore, StandsBehind, found_of, turn_pages, turn_syncs, turned_gate, turned_log};
 
 use crate::memory::Memory;
 use blob_base::IoFault;
@@ -38,7 +37,7 @@ impl Memory {
             → OnOk result (IsAtRest (D.size disk.new) (D.story disk.new) self.new) }
         ensures sound { IsSound self.new }
         ensures same { SameHeld self.old self.new }
-        ensures wrote { OnlyWrites D.Disk (IsTurnPage self.old.layout (1 - self.old.log.half)) disk.old disk.new }
+        ensures turned { MayHaveTurned D.Disk self.old disk.old disk.new }
         ensures calls { IsTrue D.tells → OnOk result
             (Took 0 (turn_pages (511 - self.old.log.gate) (body_pages (length body.now) + 1) (encoded_by self.old.relation.states))
             (turn_syncs (511 - self.old.log.gate) (body_pages (length body.now) + 1)) (D.calls disk.old) (D.calls disk.new)) }

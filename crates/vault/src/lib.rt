@@ -5,6 +5,7 @@
 mod done;
 mod fault;
 mod group;
+mod inner;
 mod keeping;
 mod knowing;
 mod laying;
@@ -18,6 +19,7 @@ mod writing;
 
 pub use done::{Done, History, Prints};
 pub use fault::{Cause, GatherFault, LeadFault, OpenFailed};
+pub use inner::Core;
 pub use keeping::{Keeping, Opened};
 pub use memory::Memory;
 pub use vault::Vault;

@@ -9,22 +9,22 @@ ghost use Rattle.store_model.specs.Disk.{Took};
 ghost use Rattle.store_model.specs.Holds.{Holds, pages_across};
 ghost use Rattle.store_model.specs.Layout.{data_page};
 ghost use Rattle.store_model.specs.State.{State};
-ghost use Rattle.store_model.specs.Verify.{FailsFirst, Verifies, computed, kept};
+ghost use Rattle.store_model.specs.Verify.{FailsFirst, IsDamage, LeadsTo, Verifies, computed};
 ghost use Rattle.vault.specs.Faults.{IsUnread};
 ghost use Rattle.vault.specs.Vaults.{IsVault, number_at};
 ghost use Rattle.vault.specs.declared.fault.Cause.{Cause};
 ghost use Rattle.vault.specs.declared.fault.GatherFault.TheVariants as gather_fault;
 
 use crate::fault::GatherFault;
-use crate::vault::Vault;
+use crate::inner::Core;
 use blob_base::Key;
 use disk_model::Disk;
 use extent_io::{Verdict, gather, verify};
 
-impl<D: Disk> Vault<D> {
+impl<D: Disk> Core<D> {
     /// Reads bytes of the content that a key has under the number `born`, from byte `off` on, as many as fit and there are. It
     /// answers how many. Each page that has any of them is read once. After an `Err` nothing is said of the bytes in `into`.
-    pub fn gather(
+    pub(crate) fn gather(
         &mut self,
         key: &Key,
         born: u64,
@@ -70,7 +70,7 @@ impl<D: Disk> Vault<D> {
     }
 
     /// Verifies the content of a key, which has one, up to the first link that fails.
-    pub fn verify(&mut self, key: &Key) -> Result<Verdict, GatherFault>
+    pub(crate) fn verify(&mut self, key: &Key) -> Result<Verdict, GatherFault>
         requires vault { IsVault D.Disk self.old.disk self.old.memory self.old.shut }
         requires there { (state : State) × (map.get self.old.memory.relation.states key.now ≡ Some state) }
         ensures whole { IsTrue D.tells → (state : State) → map.get self.old.memory.relation.states key.now ≡ Some state → result ≡ Ok Whole
@@ -79,13 +79,13 @@ impl<D: Disk> Vault<D> {
             → result ≡ Ok (Damaged link want got)
             → FailsFirst (computed (D.story self.old.disk).reads (data_page self.old.memory.layout) state) state link want got }
 
-        // Whatever the disk tells, the link is one of the state's, `want` is what the state keeps of it, and the two values are
-        // different ones.
-        ensures link { (state : State) (link : ℕ) (want got : List ℕ) → map.get self.old.memory.relation.states key.now ≡ Some state
-            → result ≡ Ok (Damaged link want got) → link ≤ length state.extents }
-        ensures kept { (state : State) (link : ℕ) (want got : List ℕ) → map.get self.old.memory.relation.states key.now ≡ Some state
-            → result ≡ Ok (Damaged link want got) → want ≡ kept state link }
-        ensures differ { (link : ℕ) (want got : List ℕ) → result ≡ Ok (Damaged link want got) → want ≢ got }
+        // Whatever the disk tells, there are bytes that give the verdict: a content of the state's size leads to the state, or the
+        // link is the first that fails over such a content.
+        ensures led { (state : State) → map.get self.old.memory.relation.states key.now ≡ Some state → result ≡ Ok Whole
+            → (content : List ℕ) × LeadsTo content state }
+        ensures damage { (state : State) (link : ℕ) (want got : List ℕ) → map.get self.old.memory.relation.states key.now ≡ Some state
+            → result ≡ Ok (Damaged link want got) → IsDamage state link want got }
+
         ensures closed { (cause : Cause) → self.old.shut ≡ Some cause → (result ≡ Err (gather_fault.Shut cause)) × (self.new ≡ self.old) }
 
         // No number is stale, since none was asked for.

@@ -28,7 +28,7 @@ returns-in_err-print-in-Ok-Damaged-clause-err g c = λ state there.
     (BrokeCheck-line g.K.Sink g.D.Disk vault.memory.layout c.args.key state one _ c.args.sink.now c.print.new.sink vault.disk c.verify.new.self.disk
     refl (λ tells. c.verify.ensures.damaged tells state one.link one.want one.got there is)
     (subst (λ (t : List ℕ). BrokeOff g.K.Sink t c.in_err-print-in-Ok-Damaged.field-0.0 c.args.sink.now c.print.new.sink) text c.in_err-print-in-Ok-Damaged.ensures.err)
-    c.verify.ensures.only)
+    c.verify.ensures.only.disk)
 
 pub returns-in-Ok-Whole-clause-ok : goal.returns-in-Ok-Whole-clause-ok
 returns-in-Ok-Whole-clause-ok g c = λ state there.
@@ -37,7 +37,7 @@ returns-in-Ok-Whole-clause-ok g c = λ state there.
     let b = c.in-Ok-Whole.field-0-is in
     let is : c.verify.result ≡ Ok Whole = cc in
     DidCheck-whole g.K.Sink g.D.Disk vault.memory.layout c.args.key state c.args.checked.now c.args.sink.now vault.disk c.verify.new.self.disk
-    (λ tells. c.verify.ensures.whole tells state there is) c.verify.ensures.only
+    (λ tells. c.verify.ensures.whole tells state there is) c.verify.ensures.only.disk
 
 pub returns-in_ok-print-in-Ok-Damaged-clause-ok : goal.returns-in_ok-print-in-Ok-Damaged-clause-ok
 returns-in_ok-print-in-Ok-Damaged-clause-ok g c = λ state there.
@@ -47,15 +47,11 @@ returns-in_ok-print-in-Ok-Damaged-clause-ok g c = λ state there.
     let b = c.in-Ok-Damaged.field-0-is in
     let is : c.verify.result ≡ Ok (Damaged one.link one.want one.got) = cc in
     let text : c.as_slice.result.now ≡ damage_line one = c.as_slice.ensures.value ∙ c.closing.ensures in
-    let link : IsOfLink state one = record {
-      exists = c.verify.ensures.link state one.link one.want one.got there is;
-      want_is = c.verify.ensures.kept state one.link one.want one.got there is;
-      differ = c.verify.ensures.differ one.link one.want one.got is;
-    } in
+    let link : IsOfLink state one = c.verify.ensures.damage state one.link one.want one.got there is in
     DidCheck-one g.K.Sink g.D.Disk vault.memory.layout c.args.key state one c.args.checked.now c.add.new.self c.args.sink.now c.print.new.sink vault.disk
     c.verify.new.self.disk refl (λ tells. c.verify.ensures.damaged tells state one.link one.want one.got there is) link
     (λ damages counted. c.add.ensures damages one counted refl)
-    (subst (λ (t : List ℕ). HasPrinted g.K.Sink t c.args.sink.now c.print.new.sink) text c.in_ok-print-in-Ok-Damaged.ensures.ok) c.verify.ensures.only
+    (subst (λ (t : List ℕ). HasPrinted g.K.Sink t c.args.sink.now c.print.new.sink) text c.in_ok-print-in-Ok-Damaged.ensures.ok) c.verify.ensures.only.disk
 
 pub returns-in-Err-clause-err : goal.returns-in-Err-clause-err
 returns-in-Err-clause-err g c = λ state there.
@@ -64,4 +60,4 @@ returns-in-Err-clause-err g c = λ state there.
     read-failed vault.shut (g.D.Disk.faults vault.disk) (g.D.Disk.faults c.verify.new.self.disk) (g.D.Disk.frugal vault.disk) c.in-Err.fault
     c.requires.open c.in-Err.ensures.unread in
     BrokeCheck-disk g.K.Sink g.D.Disk vault.memory.layout ((c.args.key, state) ∷ []) c.unread_status.result failed.0 c.args.sink.now vault.disk
-    c.verify.new.self.disk (c.unread_status.ensures failed.0 failed.1) failed.2 c.verify.ensures.only
+    c.verify.new.self.disk (c.unread_status.ensures failed.0 failed.1) failed.2 c.verify.ensures.only.disk

@@ -10,6 +10,7 @@ use Rattle.store_model.specs.State.{State}
 use Rattle.vault.specs.declared.memory.Memory.{Memory}
 use Rattle.blob_report.specs.Checks.{AddsTo, DidCheck, HasCounted}
 use Rattle.blob_report.proofs.Checkings.{BrokeCheck-then, DidCheck-then, entry-held}
+use Rattle.blob_report.proofs.Openings.{Reads-then}
 use Rattle.blob_report.proofs.checking.check_states.Goals as goal
 
 pub check_one-requires-clause-there : goal.check_one-requires-clause-there
@@ -52,9 +53,10 @@ checked-preserved g c =
           (DidCheck-then g.K.Sink g.D.Disk mine.layout (take c.checked.i es) (one ∷ []) (HasCounted c.checked.checked) (AddsTo c.checked.checked c.check_one.new.checked)
           (HasCounted c.check_one.new.checked) c.args.sink.now c.checked.sink c.check_one.new.sink c.args.vault.now.disk c.checked.vault.disk c.check_one.new.vault.disk
           (λ a b counted adds. adds a counted) c.checked.invariant.did (did one.1 (entry-there mine.relation.states c.checked.i one here)));
-      keeps = c.check_one.ensures.keeps;
       memory = c.check_one.ensures.memory ∙ c.checked.invariant.memory;
       shut = c.check_one.ensures.shut ∙ c.checked.invariant.shut;
+      still = λ tells. Reads-then (g.D.Disk.calls c.args.vault.now.disk) (g.D.Disk.calls c.checked.vault.disk) (g.D.Disk.calls c.check_one.new.vault.disk)
+          (c.checked.invariant.still tells) (c.check_one.ensures.still tells);
     }
 
 pub returns-clause-ok : goal.returns-clause-ok

@@ -1,10 +1,11 @@
 use Rattle.std.proofs.Common.{inl}
 use Rattle.disk_model.proofs.DiskLaws.{OnlyWrites-reads}
-use Rattle.recover.proofs.Survivals.{LeavesSince-read}
+use Rattle.recover.proofs.Survivals.{LeavesFrom-read}
 use Rattle.store_model.specs.Survival.{ReadsAs}
 use Rattle.recover.specs.Openings.{IsMetadata}
 use Rattle.vault.specs.Vaults.{found_of}
 use Rattle.blob_report.proofs.Checks.{Checked-broken, Checked-whole, NamesDamage-by}
+use Rattle.blob_report.proofs.Openings.{CostsOpening-read, CostsOpening-took, opening-unreported}
 use Rattle.blob_report.proofs.checking.run_check.Goals as goal
 
 pub returns-in-Ok-check-clause-checked : goal.returns-in-Ok-check-clause-checked
@@ -13,7 +14,7 @@ returns-in-Ok-check-clause-checked g c =
     let vault = c.in-Ok.vault in
     rw c.close.ensures.disk
     (Checked-whole g.K.Sink g.D.Disk vault.memory vault.shut c.in-Ok-check.verdict c.args.sink.now c.check.new.sink c.args.disk vault.disk c.check.new.vault.disk
-    opened.found opened.keeps opened.shut opened.wrote c.in-Ok-check.ensures.ok)
+    opened.found c.rules.ensures opened.shut opened.wrote c.in-Ok-check.ensures.ok)
 
 pub returns-in-Ok-check-clause-named : goal.returns-in-Ok-check-clause-named
 returns-in-Ok-check-clause-named g c =
@@ -42,13 +43,30 @@ returns-in-Err-check-clause-wrote g c =
     c.in-Ok.ensures.wrote c.in-Err-check.ensures.err.only)
 
 pub returns-in-Ok-check-clause-survives : goal.returns-in-Ok-check-clause-survives
-returns-in-Ok-check-clause-survives g c tells layout store told =
+returns-in-Ok-check-clause-survives g c tells layout store since begins told =
     rw c.close.ensures.disk
-    (inl (LeavesSince-read g.D.Disk (λ image. ReadsAs (g.D.Disk.size c.args.disk) image layout store.objects store.last) c.args.disk c.in-Ok.vault.disk c.check.new.vault.disk tells
-    (c.in-Ok.ensures.survives tells layout store told) c.in-Ok-check.ensures.ok.only))
+    (inl (LeavesFrom-read g.D.Disk (λ image. ReadsAs (g.D.Disk.size c.args.disk) image layout store.objects store.last) since c.in-Ok.vault.disk c.check.new.vault.disk tells
+    (c.in-Ok.ensures.survives tells layout store since begins told) c.in-Ok-check.ensures.ok.only))
 
 pub returns-in-Err-check-clause-survives : goal.returns-in-Err-check-clause-survives
-returns-in-Err-check-clause-survives g c tells layout store told =
+returns-in-Err-check-clause-survives g c tells layout store since begins told =
     rw c.close-in-Err-check.ensures.disk
-    (inl (LeavesSince-read g.D.Disk (λ image. ReadsAs (g.D.Disk.size c.args.disk) image layout store.objects store.last) c.args.disk c.in-Ok.vault.disk c.check.new.vault.disk tells
-    (c.in-Ok.ensures.survives tells layout store told) c.in-Err-check.ensures.err.only))
+    (inl (LeavesFrom-read g.D.Disk (λ image. ReadsAs (g.D.Disk.size c.args.disk) image layout store.objects store.last) since c.in-Ok.vault.disk c.check.new.vault.disk tells
+    (c.in-Ok.ensures.survives tells layout store since begins told) c.in-Err-check.ensures.err.only))
+
+pub returns-in-Ok-check-clause-costs : goal.returns-in-Ok-check-clause-costs
+returns-in-Ok-check-clause-costs g c reported =
+    let vault = c.in-Ok.vault in
+    rw c.close.ensures.disk
+    (CostsOpening-read g.D.Disk c.args.disk vault.disk c.check.new.vault.disk
+    (CostsOpening-took g.D.Disk c.args.disk vault.disk (found_of vault.memory) c.in-Ok.ensures.found c.in-Ok.ensures.calls) c.check.ensures.still)
+
+pub returns-in-Err-check-clause-costs : goal.returns-in-Err-check-clause-costs
+returns-in-Err-check-clause-costs g c reported =
+    let vault = c.in-Ok.vault in
+    rw c.close-in-Err-check.ensures.disk
+    (CostsOpening-read g.D.Disk c.args.disk vault.disk c.check.new.vault.disk
+    (CostsOpening-took g.D.Disk c.args.disk vault.disk (found_of vault.memory) c.in-Ok.ensures.found c.in-Ok.ensures.calls) c.check.ensures.still)
+
+pub returns-in-Err-clause-costs : goal.returns-in-Err-clause-costs
+returns-in-Err-clause-costs g c reported = opening-unreported c.in-Err.failed.fault (rw (← c.opening_status.ensures) reported)

@@ -11,5 +11,5 @@ returns-clause-did g c = elim c.match-form.branch [
   | in-Format w ↦ search rules
   | in-Show w ↦
       rw (w.in-Show.is, w.sink-is, w.disk-is, w.status-is)
-      (refl, record { showed = w.run_show-status.ensures.showed; wrote = w.run_show-status.ensures.wrote; survives = w.run_show-status.ensures.survives })
+      (refl, record { showed = w.run_show-status.ensures.showed; costs = w.run_show-status.ensures.costs; wrote = w.run_show-status.ensures.wrote; survives = w.run_show-status.ensures.survives })
 ]

@@ -19,4 +19,4 @@ returns-in-Err-clause-did g c =
     let formatted = c.format.ensures in
     rw c.opening_status.ensures
     (DidFresh-unformatted g.S.Source g.K.Sink g.D.Disk c.args.layout c.args.source.now c.args.sink.now c.args.disk c.format.new.disk c.in-Err.fault
-    (small-fault (g.D.Disk.size c.args.disk) c.args.layout c.format.result c.in-Err.fault c.in-Err.is formatted.small) formatted.untouched c.in-Err.ensures.cause)
+    (small-fault (g.D.Disk.size c.args.disk) c.args.layout c.format.result c.in-Err.fault c.in-Err.is formatted.small) formatted.untouched c.in-Err.ensures.cause formatted.wrote)

@@ -11,6 +11,7 @@ returns-in-Ok-clause-did g c = λ cost.
       costs = λ store. opened.costs store cost;
       stands = opened.stands;
       wrote = opened.wrote;
+      survives = opened.survives;
       ended = ran.ended;
       breaks = ran.breaks;
       so = ran.so;
@@ -22,4 +23,5 @@ pub returns-in-Err-clause-did : goal.returns-in-Err-clause-did
 returns-in-Err-clause-did g c = λ cost.
     let failed = c.in-Err.ensures in
     rw c.opening_status.ensures
-    (DidSteps-unopened g.S.Source g.K.Sink g.D.Disk cost c.args.source.now c.args.sink.now c.args.disk c.in-Err.failed.disk c.in-Err.failed.fault failed.refused failed.untouched)
+    (DidSteps-unopened g.S.Source g.K.Sink g.D.Disk cost c.args.source.now c.args.sink.now c.args.disk c.in-Err.failed.disk c.in-Err.failed.fault failed.refused failed.untouched
+    failed.wrote_failed.keeps.size failed.survives)

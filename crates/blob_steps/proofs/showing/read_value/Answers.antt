@@ -23,7 +23,7 @@ bytes-read g c =
 -- the vault has the state that it had
 still-there : (g : given.Over) (c : goal.After-check_value g) (state : State) → get c.args.vault.now.memory.relation.states c.args.key.now ≡ Some state
     → get c.gather.new.self.memory.relation.states c.args.key.now ≡ Some state
-still-there g c state there = ap (λ (m : Memory). get m.relation.states c.args.key.now) c.in_default.ensures.memory ∙ there
+still-there g c state there = ap (λ (m : Memory). get m.relation.states c.args.key.now) c.in_default.ensures.only.memory ∙ there
 
 -- there are as many bytes as the state has
 size-read : (g : given.Over) (c : goal.After-check_value g) (state : State) → get c.args.vault.now.memory.relation.states c.args.key.now ≡ Some state

@@ -4,6 +4,7 @@ use Rattle.store_model.specs.State.{heads_of}
 use Rattle.disk_model.proofs.DiskLaws.{Keeps-none, Keeps-then}
 use Rattle.extent_io.proofs.Stands.{head-there, used-within, uses-some}
 use Rattle.extent_io.proofs.Verifyings.{Hashing-next, Hashing-none, took-none, took-read}
+use Rattle.extent_io.proofs.ReadParts.{LeadOver-next, LeadOver-none}
 use Rattle.extent_io.proofs.verifying.hash_extent.Goals as goal
 
 pub overflow_add-first : goal.overflow_add-first
@@ -19,6 +20,7 @@ loop-number-init g c =
       Hashing-none disk.tells (data_page c.args.layout) (slice_index (heads_of c.args.state.now.extents) c.args.i) c.args.before.words c.at-chain.result.mark c.at-chain.result.count
           (disk.story c.args.disk.now) c.at-chain.ensures.mark c.at-chain.ensures.count,
       Keeps-none disk c.args.disk.now,
+      LeadOver-none c.args.before.words c.at-chain.result.mark c.at-chain.ensures.mark,
       λ tells. took-none (disk.calls c.args.disk.now),
     )
 
@@ -45,6 +47,8 @@ loop-number-preserved g c =
           c.data.ensures (head-there c.args.state.now c.extents.result.now c.args.i (record { head = 0; mark = record { words = [] } }) c.extents.ensures.value c.requires.extent) (search rules)
           c.loop-number.invariant.0 c.in_ok-read.ensures.bytes c.read.ensures.images c.blocks-in-loop-number.ensures.longer c.blocks-in-loop-number.ensures.count,
       Keeps-then disk c.args.disk.now c.loop-number.disk c.read.new.self kept c.read.ensures.keeps,
+      LeadOver-next c.loop-number.number c.args.before.words c.loop-number.chain.mark c.blocks-in-loop-number.new.self.mark c.read.new.into (search rules)
+          c.loop-number.invariant.2 c.blocks-in-loop-number.ensures.longer,
       λ tells. took-read c.loop-number.number (c.loop-number.number + 1) (disk.calls c.args.disk.now) (disk.calls c.loop-number.disk) (disk.calls c.read.new.self)
-          (c.loop-number.invariant.2 tells) (c.in_ok-read.ensures.counted.made tells) refl,
+          (c.loop-number.invariant.3 tells) (c.in_ok-read.ensures.counted.made tells) refl,
     )

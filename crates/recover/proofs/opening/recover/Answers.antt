@@ -15,7 +15,7 @@ use Rattle.store_model.specs.Layout.{Layout, total_pages}
 use Rattle.store_model.proofs.OffLaws.{picked-half}
 use Rattle.store_model.proofs.SurvivalLaws.{found-one}
 use Rattle.recover.specs.Turns.{InTurn}
-use Rattle.recover.proofs.Survivals.{Opening-read, Opening-turned}
+use Rattle.recover.proofs.Survivals.{Opening-read, Opening-turned, Opening-unsynced, failed-time}
 use Rattle.recover.proofs.Openings.{Drops-found, FindsHalf-same, Gives-found, log-read, space-read, wrote-before}
 use Rattle.recover.proofs.opening.recover.Goals as goal
 
@@ -134,8 +134,18 @@ returns-clause-dropped g c tells =
     (subst (λ (pages : Image). HasBodies pages c.in_ok-half.half log.0 log.1.0) opened log.1.1.0) c.in_ok-held.ensures.none
     (subst (λ (pages : Image). Adds (AreDroppedLast pages held.layout) log.0 c.in_ok-held.held.dropped c.take_log.new.self.dropped) opened log.1.1.1)
 
+pub returns-in_err-sync-clause-survives : goal.returns-in_err-sync-clause-survives
+returns-in_err-sync-clause-survives g c tells found since begins reads =
+    let disk = g.D.Disk in
+    let old = c.args.disk.now in
+    let p = err_from_is_err_and c.from_residual.result c.from_residual.ensures.1 in
+    rw p.1
+    (Opening-unsynced disk old c.sync.new.self found (1 - picked ((disk.story old).reads 0)) since tells begins
+    (record { keeps = c.sync.ensures.keeps; stayed = c.sync.ensures.images })
+    (failed-time disk old c.sync.new.self c.in_err-sync.field-0.0 tells c.in_err-sync.ensures.counted) reads)
+
 pub returns-in_err-half-clause-survives : goal.returns-in_err-half-clause-survives
-returns-in_err-half-clause-survives g c tells found reads =
+returns-in_err-half-clause-survives g c tells found since begins reads =
     let disk = g.D.Disk in
     let old = c.args.disk.now in
     let mid = c.sync.new.self in
@@ -143,11 +153,12 @@ returns-in_err-half-clause-survives g c tells found reads =
     c.sync.ensures.counted.time tells ∙ ap time_of (c.in_ok-sync.ensures.counted.made tells) ∙ omega arith in
     let p = err_from_is_err_and c.from_residual-in_err-half.result c.from_residual-in_err-half.ensures.1 in
     rw p.1
-    (Opening-read disk old mid c.pick.new.disk found (1 - picked ((disk.story old).reads 0)) tells (c.in_ok-sync.ensures.settled tells) time (c.sync.ensures.images tells).reads reads
-    c.pick.ensures.read)
+    (inl
+    (Opening-read disk old mid c.pick.new.disk found (1 - picked ((disk.story old).reads 0)) since tells begins (c.sync.ensures.images tells) (c.in_ok-sync.ensures.settled tells) time reads
+    c.pick.ensures.read))
 
 pub returns-in_err-held-clause-survives : goal.returns-in_err-held-clause-survives
-returns-in_err-held-clause-survives g c tells found reads =
+returns-in_err-held-clause-survives g c tells found since begins reads =
     let disk = g.D.Disk in
     let old = c.args.disk.now in
     let mid = c.sync.new.self in
@@ -155,11 +166,12 @@ returns-in_err-held-clause-survives g c tells found reads =
     c.sync.ensures.counted.time tells ∙ ap time_of (c.in_ok-sync.ensures.counted.made tells) ∙ omega arith in
     let p = err_from_is_err_and c.from_residual-in_err-held.result c.from_residual-in_err-held.ensures.1 in
     rw p.1
-    (Opening-read disk old mid c.open_half.new.disk found (1 - picked ((disk.story old).reads 0)) tells (c.in_ok-sync.ensures.settled tells) time (c.sync.ensures.images tells).reads reads
-    (OnlyReads-then disk mid c.pick.new.disk c.open_half.new.disk c.pick.ensures.read c.open_half.ensures.only))
+    (inl
+    (Opening-read disk old mid c.open_half.new.disk found (1 - picked ((disk.story old).reads 0)) since tells begins (c.sync.ensures.images tells) (c.in_ok-sync.ensures.settled tells) time reads
+    (OnlyReads-then disk mid c.pick.new.disk c.open_half.new.disk c.pick.ensures.read c.open_half.ensures.only)))
 
 pub returns-in_err-take_log-clause-survives : goal.returns-in_err-take_log-clause-survives
-returns-in_err-take_log-clause-survives g c tells found reads =
+returns-in_err-take_log-clause-survives g c tells found since begins reads =
     let disk = g.D.Disk in
     let old = c.args.disk.now in
     let mid = c.sync.new.self in
@@ -167,11 +179,12 @@ returns-in_err-take_log-clause-survives g c tells found reads =
     c.sync.ensures.counted.time tells ∙ ap time_of (c.in_ok-sync.ensures.counted.made tells) ∙ omega arith in
     let p = err_from_is_err_and c.from_residual-in_err-take_log.result c.from_residual-in_err-take_log.ensures.1 in
     rw p.1
-    (Opening-read disk old mid c.take_log.new.disk found (1 - picked ((disk.story old).reads 0)) tells (c.in_ok-sync.ensures.settled tells) time (c.sync.ensures.images tells).reads reads
-    (OnlyReads-then disk mid c.open_half.new.disk c.take_log.new.disk (OnlyReads-then disk mid c.pick.new.disk c.open_half.new.disk c.pick.ensures.read c.open_half.ensures.only) c.take_log.ensures.only))
+    (inl
+    (Opening-read disk old mid c.take_log.new.disk found (1 - picked ((disk.story old).reads 0)) since tells begins (c.sync.ensures.images tells) (c.in_ok-sync.ensures.settled tells) time reads
+    (OnlyReads-then disk mid c.open_half.new.disk c.take_log.new.disk (OnlyReads-then disk mid c.pick.new.disk c.open_half.new.disk c.pick.ensures.read c.open_half.ensures.only) c.take_log.ensures.only)))
 
 pub returns-in_err-check_apart-clause-survives : goal.returns-in_err-check_apart-clause-survives
-returns-in_err-check_apart-clause-survives g c tells found reads =
+returns-in_err-check_apart-clause-survives g c tells found since begins reads =
     let disk = g.D.Disk in
     let old = c.args.disk.now in
     let mid = c.sync.new.self in
@@ -179,11 +192,12 @@ returns-in_err-check_apart-clause-survives g c tells found reads =
     c.sync.ensures.counted.time tells ∙ ap time_of (c.in_ok-sync.ensures.counted.made tells) ∙ omega arith in
     let p = err_from_is_err_and c.from_residual-in_err-check_apart.result c.from_residual-in_err-check_apart.ensures.1 in
     rw p.1
-    (Opening-read disk old mid c.take_log.new.disk found (1 - picked ((disk.story old).reads 0)) tells (c.in_ok-sync.ensures.settled tells) time (c.sync.ensures.images tells).reads reads
-    (OnlyReads-then disk mid c.open_half.new.disk c.take_log.new.disk (OnlyReads-then disk mid c.pick.new.disk c.open_half.new.disk c.pick.ensures.read c.open_half.ensures.only) c.take_log.ensures.only))
+    (inl
+    (Opening-read disk old mid c.take_log.new.disk found (1 - picked ((disk.story old).reads 0)) since tells begins (c.sync.ensures.images tells) (c.in_ok-sync.ensures.settled tells) time reads
+    (OnlyReads-then disk mid c.open_half.new.disk c.take_log.new.disk (OnlyReads-then disk mid c.pick.new.disk c.open_half.new.disk c.pick.ensures.read c.open_half.ensures.only) c.take_log.ensures.only)))
 
 pub returns-in_err-turn-clause-survives : goal.returns-in_err-turn-clause-survives
-returns-in_err-turn-clause-survives g c tells found reads =
+returns-in_err-turn-clause-survives g c tells found since begins reads =
     let disk = g.D.Disk in
     let old = c.args.disk.now in
     let mid = c.sync.new.self in
@@ -210,7 +224,7 @@ returns-in_err-turn-clause-survives g c tells found reads =
     let p = err_from_is_err_and c.from_residual-in_err-turn.result c.from_residual-in_err-turn.ensures.1 in
     rw p.1
     (inl
-    (Opening-turned disk old mid c.turn.new.disk found (1 - picked (image 0)) tells (c.in_ok-sync.ensures.settled tells) time synced reads
+    (Opening-turned disk old mid c.turn.new.disk found (1 - picked (image 0)) since tells begins (c.sync.ensures.images tells) (c.in_ok-sync.ensures.settled tells) time reads
     c.take_log.new.disk c.take_log.new.self.layout c.take_log.new.self.last c.take_log.new.self.relation.states
     (OnlyReads-then disk mid c.open_half.new.disk c.take_log.new.disk (OnlyReads-then disk mid c.pick.new.disk c.open_half.new.disk c.pick.ensures.read c.open_half.ensures.only) c.take_log.ensures.only)
     (c.take_log.ensures.only.keeps.size ∙ c.open_half.ensures.only.keeps.size ∙ c.pick.ensures.read.keeps.size ∙ c.sync.ensures.keeps.size) same
@@ -220,7 +234,7 @@ returns-in_err-turn-clause-survives g c tells found reads =
     c.turn.ensures.windows)))
 
 pub returns-clause-survives : goal.returns-clause-survives
-returns-clause-survives g c tells found reads =
+returns-clause-survives g c tells found since begins reads =
     let disk = g.D.Disk in
     let old = c.args.disk.now in
     let mid = c.sync.new.self in
@@ -244,7 +258,7 @@ returns-clause-survives g c tells found reads =
     found-one (disk.size old) image found (held_of c.take_log.new.self) reads (gives, c.in_ok-check_apart.ensures.apart) in
     let two : picked (image 0) ≤ 1 = picked-half (image 0) in
     let half : 1 - c.in_ok-half.half ≡ 1 - picked (image 0) = ap (λ (n : ℕ). 1 - n) picks in
-    Opening-turned disk old mid c.turn.new.disk found (1 - picked (image 0)) tells (c.in_ok-sync.ensures.settled tells) time synced reads
+    Opening-turned disk old mid c.turn.new.disk found (1 - picked (image 0)) since tells begins (c.sync.ensures.images tells) (c.in_ok-sync.ensures.settled tells) time reads
     c.take_log.new.disk c.take_log.new.self.layout c.take_log.new.self.last c.take_log.new.self.relation.states
     (OnlyReads-then disk mid c.open_half.new.disk c.take_log.new.disk (OnlyReads-then disk mid c.pick.new.disk c.open_half.new.disk c.pick.ensures.read c.open_half.ensures.only) c.take_log.ensures.only)
     (c.take_log.ensures.only.keeps.size ∙ c.open_half.ensures.only.keeps.size ∙ c.pick.ensures.read.keeps.size ∙ c.sync.ensures.keeps.size) same

@@ -29,3 +29,10 @@ returns-in-Damaged-clause-fails g c tells isnt does =
     FailsFirst-none image (data_page c.args.layout) c.deref.result.now c.in-Damaged.link c.in-Damaged.want c.in-Damaged.got
     (c.verify.ensures.damaged tells c.in-Damaged.link c.in-Damaged.want c.in-Damaged.got (c.in_ok-verify-in-Set.was ∙ ap Ok c.in-Damaged.is))
     (subst (λ (s : State). Verifies image (data_page c.args.layout) s) (sym c.deref.ensures) stored)
+
+pub returns-in-Whole-clause-verifies : goal.returns-in-Whole-clause-verifies
+returns-in-Whole-clause-verifies g c tells is_true =
+    let image : Image = (g.D.Disk.story c.args.disk.now).reads in
+    let found : Verifies image (data_page c.args.layout) c.deref.result.now = c.verify.ensures.whole tells (c.in_ok-verify-in-Set.was ∙ ap Ok c.in-Whole.is) in
+    subst (λ (w : Write). DoesWriteVerify image c.args.layout (model_write w)) (sym c.in-Set.is)
+    (subst (λ (s : State). Verifies image (data_page c.args.layout) s) c.deref.ensures found)

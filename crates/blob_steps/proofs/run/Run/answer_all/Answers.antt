@@ -12,9 +12,9 @@ loop-number-init g c =
     let left = g.S.Source.left c.args.source.now in
     let taken = g.K.Sink.taken c.args.sink.now in
     let ahead = prepend-none mine.reader left c.requires.none in (
-      λ start cost starts.
-          subst (λ from. Going g.D.Disk start cost cost mine.world 1 left from taken taken mine.world.vault.disk) ahead
-          (Going-first g.D.Disk mine.world start cost left taken c.requires.sound starts),
+      λ start cost since starts.
+          subst (λ from. Going g.D.Disk start cost cost since mine.world 1 left from taken taken mine.world.vault.disk) ahead
+          (Going-first g.D.Disk mine.world start cost since left taken c.requires.sound starts),
       subst (λ from. GoingSo 1 left from taken taken) ahead (GoingSo-first left taken),
       λ told layout image states one coming. subst (λ from. ComingTo g.D.Disk layout image states one 1 from mine.world) ahead coming,
       record {
@@ -38,7 +38,7 @@ loop-number-preserved g c =
     let left = g.S.Source.left c.args.source.now in
     let taken = g.K.Sink.taken c.args.sink.now in
     let so = done.so left taken so_far.1 in (
-      λ start cost starts. (let next = done.going start cost cost left taken c.args.self.now.world.vault.disk (so_far.0 start cost starts) in rw c.if-not-branch.false at next),
+      λ start cost since starts. (let next = done.going start cost cost since left taken c.args.self.now.world.vault.disk (so_far.0 start cost since starts) in rw c.if-not-branch.false at next),
       rw c.if-not-branch.false at so,
       λ told layout image states one coming. (let next = done.breaks told layout image states one (so_far.2 told layout image states one coming) in rw c.if-not-branch.false at next),
       record {

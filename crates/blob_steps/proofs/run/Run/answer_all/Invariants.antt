@@ -32,8 +32,8 @@ invariant-loop-number g l =
     let source = g.S.Source in
     let sink = g.K.Sink in
     let left = prepend_known l.self.reader (source.left l.source) in
-    ((start : Store) (cost : Cost) → StartsOn g.D.Disk start cost l.fn.self.world
-    → Going g.D.Disk start cost cost l.self.world l.number (source.left l.fn.source) left (sink.taken l.fn.sink) (sink.taken l.sink) l.fn.self.world.vault.disk)
+    ((start : Store) (cost : Cost) (since : ℕ) → StartsOn g.D.Disk start cost since l.fn.self.world
+    → Going g.D.Disk start cost cost since l.self.world l.number (source.left l.fn.source) left (sink.taken l.fn.sink) (sink.taken l.sink) l.fn.self.world.vault.disk)
     × GoingSo l.number (source.left l.fn.source) left (sink.taken l.fn.sink) (sink.taken l.sink)
     × (IsTrue g.D.Disk.tells → (layout : Layout) (image : Image) (states : FinMap key_order State) (one : Damage)
     → ComingTo g.D.Disk layout image states one 1 (source.left l.fn.source) l.fn.self.world

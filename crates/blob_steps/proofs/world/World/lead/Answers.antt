@@ -2,15 +2,18 @@ use Rattle.std.proofs.Common.{◌≡◌, ◌==◌, ◌<◌, ℕ, List, ◌++◌,
 use Rattle.std.proofs.lemmas.Bool.Decides.{nat_tests}
 use Rattle.std.proofs.lemmas.List.{nil_from_length}
 use Rattle.disk_model.specs.Disks.{Keeps}
+use Rattle.disk_model.proofs.DiskLaws.{OnlyReads-none}
 use Rattle.group_plan.specs.Plans.{members_of}
 use Rattle.vault.specs.Leads.{ledger_in}
 use Rattle.vault.specs.declared.vault.Vault.{Vault}
-use Rattle.blob_steps.specs.Steps.{Replying, replies_text}
+use Rattle.blob_steps.specs.Steps.{Replying, StepSurvives, replies_text}
 use Rattle.store_model.specs.Answer as answer
 use Rattle.store_model.specs.Answer.{answer_text}
 use Rattle.store_model.specs.Group.{no_tally}
+use Rattle.store_model.specs.Script as script
 use Rattle.blob_steps.specs.declared.world.World.{World}
-use Rattle.blob_steps.proofs.Leading.{AreOf-some, HasLed, came-led, few-requests, follows-led, follows-none, group_members, lead-keeps, lead-none, led-begun, led-sound, length-some_members, replies-count, session-below, sessions-below, some_members}
+use Rattle.blob_steps.proofs.Leading.{AreOf-some, HasLed, came-led, few-requests, follows-led, follows-none, group_members, lead-keeps, lead-none, led-begun, led-sound, length-some_members, replies-count, session-below, sessions-below, some_members, survives-led}
+use Rattle.blob_steps.proofs.Surviving.{StepSurvives-reads}
 use Rattle.blob_steps.proofs.Members.{AreOf-members}
 use Rattle.blob_steps.proofs.world.World.lead.Goals as goal
 
@@ -110,3 +113,38 @@ returns-clause-follows g c = λ world is none.
       count = replies-count replies (group_members g.D.Disk mine middle new replies) c.in_ok-replies.ensures.replied;
       replied = subst (λ (ns : List ℕ). Replying (length replies) ns middle new) c.in_ok-numbers.ensures c.in_ok-reply_all.ensures.replied;
     }) some c.in_ok-replies.ensures.idle none
+
+pub returns-then-is_empty-clause-survives : goal.returns-then-is_empty-clause-survives
+returns-then-is_empty-clause-survives g c =
+    let mine = c.args.self.now in
+    StepSurvives-reads g.D.Disk script.Lead mine mine (OnlyReads-none g.D.Disk mine.vault.disk)
+
+pub returns-in_err-numbers-clause-survives : goal.returns-in_err-numbers-clause-survives
+returns-in_err-numbers-clause-survives g c =
+    let mine = c.args.self.now in
+    StepSurvives-reads g.D.Disk script.Lead mine mine (OnlyReads-none g.D.Disk mine.vault.disk)
+
+pub returns-in_err-replies-clause-survives : goal.returns-in_err-replies-clause-survives
+returns-in_err-replies-clause-survives g c =
+    let mine = c.args.self.now in
+    let later : World _ = record { vault = c.lead.new.self; sessions = mine.sessions; queue = c.lead.new.queue } in
+    let filled : (length mine.queue == 0) ≡ false = sym c.is_empty.ensures ∙ c.if-is_empty.false in
+    survives-led g.D.Disk mine later c.requires.sound (grind (arith, nat_tests, filled)) (λ told. c.lead.ensures.survives told c.requires.sound.unshut)
+
+pub returns-in_err-reply_all-clause-survives : goal.returns-in_err-reply_all-clause-survives
+returns-in_err-reply_all-clause-survives g c =
+    let mine = c.args.self.now in
+    let later : World _ = record { vault = c.lead.new.self; sessions = mine.sessions; queue = c.lead.new.queue } in
+    let filled : (length mine.queue == 0) ≡ false = sym c.is_empty.ensures ∙ c.if-is_empty.false in
+    subst (λ (v : Vault _). StepSurvives g.D.Disk script.Lead mine (record { vault = v; sessions = c.reply_all.new.self.sessions; queue = c.reply_all.new.self.queue }))
+    (sym c.reply_all.ensures.vault)
+    (survives-led g.D.Disk mine later c.requires.sound (grind (arith, nat_tests, filled)) (λ told. c.lead.ensures.survives told c.requires.sound.unshut))
+
+pub returns-clause-survives : goal.returns-clause-survives
+returns-clause-survives g c =
+    let mine = c.args.self.now in
+    let later : World _ = record { vault = c.lead.new.self; sessions = mine.sessions; queue = c.lead.new.queue } in
+    let filled : (length mine.queue == 0) ≡ false = sym c.is_empty.ensures ∙ c.if-is_empty.false in
+    subst (λ (v : Vault _). StepSurvives g.D.Disk script.Lead mine (record { vault = v; sessions = c.reply_all.new.self.sessions; queue = c.reply_all.new.self.queue }))
+    (sym c.reply_all.ensures.vault)
+    (survives-led g.D.Disk mine later c.requires.sound (grind (arith, nat_tests, filled)) (λ told. c.lead.ensures.survives told c.requires.sound.unshut))

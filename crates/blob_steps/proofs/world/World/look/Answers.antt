@@ -2,6 +2,7 @@ use Rattle.std.proofs.Common.{List, ℕ, refl, sym, ◌∙◌, ap, subst, ◌++�
 use Rattle.std.proofs.lemmas.Result.{err_from_is_err_and}
 use Rattle.blob_script.specs.Answers.{model_line}
 use Rattle.blob_script.specs.declared.answer.AnswerLine.{AnswerLine}
+use Rattle.disk_model.specs.Disks.{OnlyReads}
 use Rattle.disk_model.proofs.DiskLaws.{Keeps-none, OnlyReads-none}
 use Rattle.std.specs.FinMap.{get}
 use Rattle.blob_steps.specs.Looks.{show_of}
@@ -156,4 +157,19 @@ returns-clause-breaks g c = λ told world is.
       | in-Stored+in_ok-line-in-Stored w ↦
           unbroken-stored g.D.Disk mine new c.args.session c.args.key.now c.in_ok-line.field-0 c.requires.sound left
           c.in_ok-line.ensures world is c.args.look (w.in_ok-line-in-Stored.ensures.verifies told)
+    ]
+
+pub returns-in-Own-clause-only_reads : goal.returns-in-Own-clause-only_reads
+returns-in-Own-clause-only_reads g c = OnlyReads-none g.D.Disk c.args.self.now.vault.disk
+
+pub returns-in_err-line-in-Stored-clause-only_reads : goal.returns-in_err-line-in-Stored-clause-only_reads
+returns-in_err-line-in-Stored-clause-only_reads g c = c.in_err-line-in-Stored.ensures.only_reads
+
+pub returns-clause-only_reads : goal.returns-clause-only_reads
+returns-clause-only_reads g c =
+    let mine = c.args.self.now in
+    elim c.match-branch-2.branch [
+      | in-Line w ↦ subst (λ (later : World _). OnlyReads g.D.Disk mine.vault.disk later.vault.disk) (sym w.self-is) (OnlyReads-none g.D.Disk mine.vault.disk)
+      | in-Stored+in_ok-line-in-Stored w ↦
+          subst (λ (later : World _). OnlyReads g.D.Disk mine.vault.disk later.vault.disk) (sym w.self-is) w.in_ok-line-in-Stored.ensures.only_reads
     ]

@@ -5,6 +5,7 @@ use Rattle.blob_script.specs.declared.step.Step.{Step}
 use Rattle.store_model.specs.Play.{step_play}
 use Rattle.store_model.specs.World.{checkpointed, lead}
 use Rattle.blob_steps.proofs.Answering.{Stepped-err}
+use Rattle.blob_steps.proofs.Surviving.{StepSurvives-reads}
 use Rattle.blob_steps.proofs.world.World.step.Goals as goal
 
 pub returns-in_err-lead-in-Lead-clause-stepped : goal.returns-in_err-lead-in-Lead-clause-stepped
@@ -58,3 +59,19 @@ pub returns-in_ok-checkpoint-in-Checkpoint-clause-follows : goal.returns-in_ok-c
 returns-in_ok-checkpoint-in-Checkpoint-clause-follows g c = λ world is.
     let layout = c.args.self.now.vault.memory.layout in
     (checkpointed world, ap (λ (s : Step). step_play layout world (model_step s)) c.in-Checkpoint.is, λ none. c.in_ok-checkpoint-in-Checkpoint.ensures.follows world is)
+
+pub returns-in-Session-clause-survives : goal.returns-in-Session-clause-survives
+returns-in-Session-clause-survives g c =
+    StepSurvives-reads g.D.Disk (model_step c.args.step) c.args.self.now c.turn.new.self c.turn.ensures.only_reads
+
+pub returns-in_err-lead-in-Lead-clause-survives : goal.returns-in_err-lead-in-Lead-clause-survives
+returns-in_err-lead-in-Lead-clause-survives g c = rw c.in-Lead.is c.lead.ensures.survives
+
+pub returns-in_ok-lead-in-Lead-clause-survives : goal.returns-in_ok-lead-in-Lead-clause-survives
+returns-in_ok-lead-in-Lead-clause-survives g c = rw c.in-Lead.is c.lead.ensures.survives
+
+pub returns-in_err-checkpoint-in-Checkpoint-clause-survives : goal.returns-in_err-checkpoint-in-Checkpoint-clause-survives
+returns-in_err-checkpoint-in-Checkpoint-clause-survives g c = rw c.in-Checkpoint.is c.checkpoint.ensures.survives
+
+pub returns-in_ok-checkpoint-in-Checkpoint-clause-survives : goal.returns-in_ok-checkpoint-in-Checkpoint-clause-survives
+returns-in_ok-checkpoint-in-Checkpoint-clause-survives g c = rw c.in-Checkpoint.is c.checkpoint.ensures.survives

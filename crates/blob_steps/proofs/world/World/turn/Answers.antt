@@ -11,7 +11,7 @@ use Rattle.store_model.specs.Turn as turn
 use Rattle.blob_script.specs.declared.answer.AnswerLine.{AnswerLine}
 use Rattle.blob_steps.specs.Steps.{TakesTurn}
 use Rattle.blob_steps.specs.declared.world.Played.TheVariants.{Answered}
-use Rattle.blob_steps.proofs.Answering.{Stepped-err, ok-is, turn-failed, turn-plays, turn-stepped}
+use Rattle.blob_steps.proofs.Answering.{Stepped-err, ok-is, only-same, turn-failed, turn-plays, turn-stepped}
 use Rattle.blob_steps.proofs.Breaking.{follows-turn}
 use Rattle.blob_steps.proofs.world.World.turn.Goals.{in-Begin, in-Commit+in_ok-line-in-Commit, in-Abort, in-Put+in_ok-line-in-Put+in-Hex-1, in-Put+in_ok-line-in-Put+in-Made-1, in-Del+in_ok-line-in-Del}
 use Rattle.blob_steps.proofs.world.World.turn.Goals as goal
@@ -192,3 +192,27 @@ returns-in_err-look-in-Stat-clause-breaks g c = λ told world is.
 pub returns-in-Get-clause-breaks : goal.returns-in-Get-clause-breaks
 returns-in-Get-clause-breaks g c = λ told world is.
     rw c.in-Get.is (c.in_ok-look-in-Get.ensures.breaks told world is)
+
+pub returns-clause-only_reads : goal.returns-clause-only_reads
+returns-clause-only_reads g c =
+    let mine = c.args.self.now in
+    elim c.match-action.branch [
+      | in-Begin w ↦ only-same g.D.Disk mine w.begin-line.new.self c.match-action.self w.begin-line.ensures.vault w.self-is
+      | in-Commit+in_ok-line-in-Commit w ↦ only-same g.D.Disk mine w.commit.new.self c.match-action.self w.commit.ensures.vault w.self-is
+      | in-Abort w ↦ only-same g.D.Disk mine w.abort-line.new.self c.match-action.self w.abort-line.ensures.vault w.self-is
+      | in-Put+in_ok-line-in-Put+in-Hex-1 w ↦ only-same g.D.Disk mine w.put.new.self c.match-action.self w.put.ensures.vault w.self-is
+      | in-Put+in_ok-line-in-Put+in-Made-1 w ↦ only-same g.D.Disk mine w.put.new.self c.match-action.self w.put.ensures.vault w.self-is
+      | in-Del+in_ok-line-in-Del w ↦ only-same g.D.Disk mine w.del.new.self c.match-action.self w.del.ensures.vault w.self-is
+    ]
+
+pub returns-in_err-answer-clause-only_reads : goal.returns-in_err-answer-clause-only_reads
+returns-in_err-answer-clause-only_reads g c =
+    let mine = c.args.self.now in
+    elim c.match-action.branch [
+      | in-Begin w ↦ only-same g.D.Disk mine w.begin-line.new.self c.match-action.self w.begin-line.ensures.vault w.self-is
+      | in-Commit+in_ok-line-in-Commit w ↦ only-same g.D.Disk mine w.commit.new.self c.match-action.self w.commit.ensures.vault w.self-is
+      | in-Abort w ↦ only-same g.D.Disk mine w.abort-line.new.self c.match-action.self w.abort-line.ensures.vault w.self-is
+      | in-Put+in_ok-line-in-Put+in-Hex-1 w ↦ only-same g.D.Disk mine w.put.new.self c.match-action.self w.put.ensures.vault w.self-is
+      | in-Put+in_ok-line-in-Put+in-Made-1 w ↦ only-same g.D.Disk mine w.put.new.self c.match-action.self w.put.ensures.vault w.self-is
+      | in-Del+in_ok-line-in-Del w ↦ only-same g.D.Disk mine w.del.new.self c.match-action.self w.del.ensures.vault w.self-is
+    ]

@@ -19,15 +19,15 @@ returns-clause-laid g c =
     (λ stands settled. (
       c.make_room.new.disk,
       HasLaid-behind disk before mid now bytes c.args.disk.now c.make_room.new.disk new c.lay.ensures.same c.lay.ensures.half c.lay.ensures.gate
-          c.make_room.ensures.wrote (λ tells. c.in_ok-make_room.ensures.rest tells) c.lay.ensures.wrote settled stands,
+          c.make_room.ensures.turned (λ tells. c.in_ok-make_room.ensures.rest tells) c.lay.ensures.wrote settled stands,
     ))
 
 pub returns-in_err-make_room-clause-window : goal.returns-in_err-make_room-clause-window
 returns-in_err-make_room-clause-window g c =
     InFirst-none g.D.Disk c.args.self.now c.args.body.now c.args.disk.now c.make_room.new.disk
-    (let e : body_pages (length c.args.body.now) ≤ 510 = omega (arith, c.requires.short) in e) c.make_room.ensures.wrote
+    (let e : body_pages (length c.args.body.now) ≤ 510 = omega (arith, c.requires.short) in e) c.make_room.ensures.turned
 
 pub returns-clause-window : goal.returns-clause-window
 returns-clause-window g c =
     InFirst-from g.D.Disk c.args.self.now c.make_room.new.self c.args.body.now c.args.disk.now c.make_room.new.disk c.lay.new.disk
-    c.make_room.ensures.same c.rules.ensures.half c.in_ok-make_room.ensures.room c.make_room.ensures.wrote (λ tells. c.in_ok-make_room.ensures.rest tells) c.lay.ensures.wrote
+    c.make_room.ensures.same c.rules.ensures.half c.in_ok-make_room.ensures.room c.make_room.ensures.turned (λ tells. c.in_ok-make_room.ensures.rest tells) c.lay.ensures.wrote

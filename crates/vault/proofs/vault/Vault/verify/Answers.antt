@@ -1,30 +1,13 @@
-use Rattle.std.proofs.Common.{◌≡◌, Ok, Some, sym, ap, ◌∙◌, subst}
-use Rattle.std.specs.FinMap.{get}
-use Rattle.std.specs.Option.{option_copied}
-use Rattle.extent_io.specs.declared.verdict.Verdict.TheVariants.{Damaged}
-use Rattle.store_model.specs.Layout.{data_page}
-use Rattle.store_model.specs.State.{State}
-use Rattle.store_model.specs.Verify.{FailsFirst, computed}
-use Rattle.vault.proofs.Readings.{IsVault-read, held-blocks}
 use Rattle.vault.proofs.vault.Vault.verify.Goals as goal
 
-pub verify-requires-clause-within : goal.verify-requires-clause-within
-verify-requires-clause-within g c =
-    let there : get c.args.self.now.memory.relation.states c.args.key.now ≡ Some c.in-Some-get.state.now = sym c.get.ensures ∙ ap option_copied c.in-Some-get.is in
-    held-blocks c.args.self.now.memory c.args.key.now c.in-Some-get.state.now c.requires.vault.held there
-
-pub returns-in_err-verify-clause-keeps : goal.returns-in_err-verify-clause-keeps
-returns-in_err-verify-clause-keeps g c =
-    IsVault-read g.D.Disk c.args.self.now.disk c.verify.new.disk c.args.self.now.memory c.args.self.now.shut c.verify.ensures.only_reads c.requires.vault
-
-pub returns-clause-keeps : goal.returns-clause-keeps
-returns-clause-keeps g c =
-    IsVault-read g.D.Disk c.args.self.now.disk c.verify.new.disk c.args.self.now.memory c.args.self.now.shut c.verify.ensures.only_reads c.requires.vault
-
 pub returns-clause-damaged : goal.returns-clause-damaged
-returns-clause-damaged g c tells state link want got there is =
-    let here : Some state ≡ Some c.in-Some-get.state.now = sym there ∙ sym c.get.ensures ∙ ap option_copied c.in-Some-get.is in
-    let same : state ≡ c.in-Some-get.state.now = cc here in
-    let value : c.in_ok-verify.field-0 ≡ Damaged link want got = cc is in
-    subst (λ (s : State). FailsFirst (computed (g.D.Disk.story c.args.self.now.disk).reads (data_page c.args.self.now.memory.layout) s) s link want got) (sym same)
-    (c.verify.ensures.damaged tells link want got (c.in_ok-verify.was ∙ ap Ok value))
+returns-clause-damaged g c = rw (← c.self.view_is) c.verify.ensures.damaged
+
+pub returns-clause-led : goal.returns-clause-led
+returns-clause-led g c = rw (← c.self.view_is) c.verify.ensures.led
+
+pub returns-clause-damage : goal.returns-clause-damage
+returns-clause-damage g c = rw (← c.self.view_is) c.verify.ensures.damage
+
+pub returns-clause-whole : goal.returns-clause-whole
+returns-clause-whole g c = rw (← c.self.view_is) c.verify.ensures.whole

@@ -19,7 +19,7 @@ use Rattle.vault.specs.declared.memory.Memory.{Memory}
 use Rattle.vault.proofs.Behind.{IsAtRest-made, IsHalf-behind, IsHeld-behind}
 use Rattle.vault.proofs.Bodies.{body-most, length-body}
 use Rattle.vault.proofs.Sames.{IsAtRest-found, IsVault-reserved, InWindows-none, InWindows-same, InWindows-size}
-use Rattle.vault.proofs.vault.Vault.commit.Goals as goal
+use Rattle.vault.proofs.inner.Core.commit.Goals as goal
 
 pub returns-in_err-body-clause-windows : goal.returns-in_err-body-clause-windows
 returns-in_err-body-clause-windows g c =

@@ -10,8 +10,8 @@ use Rattle.vault.proofs.Costings.{Costs-opened}
 use Rattle.vault.proofs.Gates.{IsAtRest-turned}
 use Rattle.vault.proofs.Ledgers.{bytes-alike}
 use Rattle.vault.proofs.Readings.{IsOpenedAs-read}
-use Rattle.vault.proofs.Crashes.{Opening-survives, Since-survives}
-use Rattle.vault.proofs.vault.Vault.open.Goals as goal
+use Rattle.vault.proofs.Crashes.{From-survives, Opening-survives}
+use Rattle.vault.proofs.inner.Core.open.Goals as goal
 
 pub returns-in-Ok-begin-clause-found : goal.returns-in-Ok-begin-clause-found
 returns-in-Ok-begin-clause-found g c tells =
@@ -61,13 +61,13 @@ returns-in-Ok-begin-clause-costs g c store cost stands =
     (λ tells. subst (λ (r : RelationParts). TookOpening (encoded_by r.states) (disk.calls c.args.disk) (disk.calls c.recover.new.disk)) (sym made.relation) (c.in-Ok.ensures.calls tells))
 
 pub returns-in-Ok-begin-clause-survives : goal.returns-in-Ok-begin-clause-survives
-returns-in-Ok-begin-clause-survives g c tells layout store told =
-    Since-survives g.D.Disk c.args.disk c.recover.new.disk layout store told (c.in-Ok.ensures.survives tells told.found told.reads)
+returns-in-Ok-begin-clause-survives g c tells layout store since begins told =
+    From-survives g.D.Disk c.args.disk c.recover.new.disk layout store since told (c.in-Ok.ensures.survives tells told.found since begins told.reads)
 
 pub returns-in-Err-begin-clause-survives : goal.returns-in-Err-begin-clause-survives
-returns-in-Err-begin-clause-survives g c tells layout store told =
-    inl (Since-survives g.D.Disk c.args.disk c.recover.new.disk layout store told (c.in-Ok.ensures.survives tells told.found told.reads))
+returns-in-Err-begin-clause-survives g c tells layout store since begins told =
+    inl (From-survives g.D.Disk c.args.disk c.recover.new.disk layout store since told (c.in-Ok.ensures.survives tells told.found since begins told.reads))
 
 pub returns-in-Err-clause-survives : goal.returns-in-Err-clause-survives
-returns-in-Err-clause-survives g c tells layout store told =
-    Opening-survives g.D.Disk c.args.disk c.recover.new.disk layout store told (c.in-Err.ensures.survives tells told.found told.reads)
+returns-in-Err-clause-survives g c tells layout store since begins told =
+    Opening-survives g.D.Disk c.args.disk c.recover.new.disk layout store since told (c.in-Err.ensures.survives tells told.found since begins told.reads)
