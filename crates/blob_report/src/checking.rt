@@ -1,6 +1,6 @@
 // The check of a store.
 
-ghost use Rattle.std.specs.Prelude.{◌≡◌, ℕ, ◌+◌, ◌-◌, ◌^◌, ◌<◌, List, [], ◌∷◌, ◌++◌, IfErr, IfOk, IsTrue, None, OnOk, Some};
+ghost use Rattle.std.specs.Prelude.{◌≡◌, ◌-◌, ◌^◌, ◌<◌, List, [], ◌∷◌, ◌++◌, IfErr, IfOk, IsTrue, None, OnOk, Some};
 ghost use Rattle.std.specs.FinMap.{entries, get};
 ghost use Rattle.blob_base.specs.Faults.{KeepsEnd};
 ghost use Rattle.disk_model.specs.Disks.{OnlyWrites};

@@ -1,6 +1,6 @@
 // The words of a command line.
 
-ghost use Rattle.std.specs.Prelude.{◌≡◌, [], ◌∷◌, IfSome, IfNone};
+ghost use Rattle.std.specs.Prelude.{[], ◌∷◌, IfSome, IfNone};
 ghost use Rattle.store_model.specs.Form.{IsForm, IsNoForm};
 ghost use Rattle.store_model.specs.Layout.{Layout as Model};
 ghost use Rattle.blob_script.specs.Words.{SpellLayout, layout_by, model_form};

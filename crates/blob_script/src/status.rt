@@ -1,10 +1,9 @@
 // How a run ended.
 
-ghost use Rattle.std.specs.Prelude.{◌≡◌, ◌+◌, ◌≤◌, ◌++◌, length, codes, decimal};
+ghost use Rattle.std.specs.Prelude.{◌≡◌, ◌++◌, codes};
 ghost use Rattle.blob_base.specs.Refusals.{refusal_of};
 ghost use Rattle.blob_script.specs.Endings.{ending_of};
-ghost use Rattle.hex.specs.Hex.{encode_lower};
-ghost use Rattle.store_model.specs.Answer.{line_end, two_numbers};
+ghost use Rattle.store_model.specs.Answer.{line_end};
 ghost use Rattle.store_model.specs.Closing.{Damaged, exit_status, closing_text, reason_text, refusal_text};
 
 use crate::line::{

@@ -1,6 +1,6 @@
 // Drafts: states that have no place yet.
 
-ghost use Rattle.std.specs.Prelude.{◌≡◌, ℕ, ◌+◌, ◌*◌, ◌/◌, ◌<◌, ◌≤◌, List, Option, [], length, take, IfOk, IfErr, OnOk};
+ghost use Rattle.std.specs.Prelude.{◌≡◌, ℕ, ◌*◌, ◌/◌, ◌<◌, ◌≤◌, List, [], length, take, IfOk, IfErr, OnOk};
 ghost use Rattle.store_model.specs.Disk.{page_bytes};
 ghost use Rattle.store_model.specs.Hash.{Leads, initial_state};
 ghost use Rattle.store_model.specs.Shape.{greatest_size};

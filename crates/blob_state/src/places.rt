@@ -1,6 +1,6 @@
 // The extents and the tail of a stored state, read back.
 
-ghost use Rattle.std.specs.Prelude.{◌≡◌, ◌+◌, ◌*◌, ◌%◌, ◌<◌, ◌≤◌, length, take, drop, IfSome, IfOk, IfErr, OnOk, []};
+ghost use Rattle.std.specs.Prelude.{◌≡◌, ◌+◌, ◌*◌, ◌<◌, ◌≤◌, length, take, drop, IfSome, IfOk, IfErr, OnOk, []};
 ghost use Rattle.std.specs.List.{flat_map, range_with_len};
 ghost use Rattle.store_model.specs.Field.{AreGood, IsBroken, IsFirstBroken, IsGood, told_four};
 ghost use Rattle.store_model.specs.Hash.{bytes_of_state};

@@ -1,6 +1,5 @@
 -- A checkpoint, over the program's world.
-use Rattle.std.proofs.Common.{◌≡◌, ℕ, zero, suc, ◌+◌, ◌%◌, ◌<◌, ◌≤◌, IsTrue, List, length, take, [], inl, inr, sym, ◌∙◌, ap, subst, arith}
-use Rattle.std.proofs.lemmas.Bool.{cases_lt}
+use Rattle.std.proofs.Common.{◌≡◌, ℕ, ◌+◌, ◌%◌, ◌≤◌, IsTrue, List, length, take, [], inl, sym, ◌∙◌, ap, subst, arith}
 use Rattle.std.specs.FinMap.{FinMap}
 use Rattle.disk_model.specs.Disks.{OnlyWrites}
 use Rattle.disk_model.specs.declared.disk.Disk.{Ghosts}
@@ -14,8 +13,7 @@ use Rattle.store_model.specs.Disk.{Image, page_bytes}
 use Rattle.store_model.specs.Holds.{HoldsAt}
 use Rattle.store_model.specs.Images.{LeavesOnly}
 use Rattle.store_model.specs.Key.{key_order}
-use Rattle.store_model.specs.Layout.{Layout, data_page, states_page}
-use Rattle.store_model.specs.Space.{Block}
+use Rattle.store_model.specs.Layout.{Layout, data_page}
 use Rattle.store_model.specs.Script as script
 use Rattle.store_model.specs.Standing.{AllHeld, AllStand, SameObjects}
 use Rattle.store_model.specs.Store.{Object, Placement, Store}

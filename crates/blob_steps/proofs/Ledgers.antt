@@ -9,7 +9,7 @@ use Rattle.store_model.specs.Layout.{data_pages}
 use Rattle.store_model.specs.Placing.{Need}
 use Rattle.store_model.specs.State.{State}
 use Rattle.store_model.specs.Store as model
-use Rattle.store_model.specs.Store.{Object, Placement, content_at}
+use Rattle.store_model.specs.Store.{Object, content_at}
 use Rattle.store_model.specs.Transaction.{Change as ModelChange}
 use Rattle.store_model.specs.World.{holding_of, holdings, ledger_of, need_of, needs_of, states_bytes}
 use Rattle.store_model.proofs.MapLaws.{entries-map_values}

@@ -6,7 +6,7 @@ use Rattle.std.proofs.lemmas.List.Elements.{All-append}
 use Rattle.store_model.specs.Answer as answer
 use Rattle.store_model.specs.Play.{queue_after, turned}
 use Rattle.store_model.specs.Turn as turn
-use Rattle.store_model.specs.Turn.{begun_after, session_after, stage_turn}
+use Rattle.store_model.specs.Turn.{session_after, stage_turn}
 use Rattle.store_model.specs.World as model
 use Rattle.store_model.specs.World.{with_session, world_over}
 use Rattle.store_model.specs.Store.{Store, empty_store}

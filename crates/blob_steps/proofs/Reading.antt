@@ -10,7 +10,7 @@ use Rattle.store_model.specs.Store.{Object, Store, content_at, content_of_object
 use Rattle.store_model.specs.Transaction as model
 use Rattle.store_model.specs.Transaction.{Transaction}
 use Rattle.store_model.specs.Turn as turn
-use Rattle.store_model.specs.Turn.{Turned, changed_content, delete_found, is_one_too_many, is_stale, most_keys, reading_turn, stage_turn, too_many, value_of, with_changed, with_read}
+use Rattle.store_model.specs.Turn.{Turned, changed_content, delete_found, is_one_too_many, is_stale, reading_turn, stage_turn, too_many, value_of, with_changed, with_read}
 use Rattle.store_model.proofs.MapLaws.{get-map_values}
 use Rattle.txn.specs.Refusals.{IsReadRefusal}
 use Rattle.txn.specs.Requests.{model_change}

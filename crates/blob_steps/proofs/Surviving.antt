@@ -1,11 +1,11 @@
 -- What survives each crash of a run, along its lines and at its end.
-use Rattle.std.proofs.Common.{◌≡◌, ℕ, ◌+◌, ◌≤◌, ◌⊎◌, IsTrue, List, [], ◌∷◌, ◌++◌, length, fold, Option, Some, None, inl, inr, refl, sym, ◌∙◌, ap, subst, arith, append-nil}
+use Rattle.std.proofs.Common.{◌≡◌, ℕ, ◌≤◌, IsTrue, List, [], ◌∷◌, ◌++◌, length, fold, Option, Some, None, inl, inr, refl, sym, ◌∙◌, ap, subst, arith, append-nil}
 use Rattle.std.proofs.lemmas.List.Elements.{filter_map-append}
 use Rattle.disk_model.specs.Disks.{OnlyReads}
 use Rattle.disk_model.specs.declared.disk.Disk.{Ghosts}
 use Rattle.store_model.specs.Disk.{Image}
-use Rattle.store_model.specs.Endures.{Endures, GoesOnWith, IsUnderWay}
-use Rattle.store_model.specs.Group.{Commit, commits_of}
+use Rattle.store_model.specs.Endures.{IsUnderWay}
+use Rattle.store_model.specs.Group.{Commit}
 use Rattle.store_model.specs.Images.{LeavesOnly, Stayed, Story}
 use Rattle.store_model.specs.Layout.{Layout}
 use Rattle.store_model.specs.Play.{PlayedLine, action_play, play, played_line, step_play, transact}
@@ -14,7 +14,7 @@ use Rattle.store_model.specs.Store.{Store}
 use Rattle.store_model.specs.Survival.{Group, ReadsAs, RestsAs, Survives, SurvivesAll, group_of, groups_by, groups_of, store_at}
 use Rattle.store_model.specs.Turn as turn
 use Rattle.store_model.specs.World as model
-use Rattle.store_model.specs.World.{Outcome, checkpointed, group_in, lead, lead_queue, with_commit}
+use Rattle.store_model.specs.World.{Outcome, checkpointed, lead, lead_queue, with_commit}
 use Rattle.store_model.proofs.ImageLaws.{leaves_more}
 use Rattle.store_model.proofs.SurvivalStoryLaws.{SurvivesAll-begin, SurvivesAll-done, SurvivesAll-more, SurvivesAll-on, Survives-behind}
 use Rattle.recover.specs.Openings.{LeavesFrom}

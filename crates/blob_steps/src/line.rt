@@ -1,6 +1,6 @@
 // The lines of a script, one by one.
 
-ghost use Rattle.std.specs.Prelude.{◌≡◌, ◌<◌, ◌≤◌, ◌++◌, ◌↔◌, [], ℕ, false, length, IfOk, OnOk, IfErr, IsTrue};
+ghost use Rattle.std.specs.Prelude.{◌≡◌, ◌<◌, ◌≤◌, ◌++◌, ◌↔◌, [], ℕ, false, length, IfOk, OnOk, IsTrue};
 ghost use Rattle.std.specs.List.{before_first, after_first, position, position_or_len};
 ghost use Rattle.std.specs.Io.KnownBytes.{prepend_known, IsAtEnd, Keeps};
 ghost use Rattle.blob_base.specs.Faults.{CameFrom, HasCause, KeepsEnd};

@@ -1,9 +1,8 @@
 // The run of a script over a source, a sink and the store of a disk.
 
-ghost use Rattle.std.specs.Prelude.{◌≡◌, ◌<◌, ◌≤◌, ◌+◌, ◌^◌, ℕ, [], List, Option, None, Some, OnOk, IfOk, IfErr, MatchBool, MatchResult, IsTrue, true};
+ghost use Rattle.std.specs.Prelude.{◌≡◌, ◌≤◌, ◌+◌, ◌^◌, ℕ, [], List, Option, None, Some, OnOk, IfOk, IfErr, MatchBool, MatchResult, IsTrue, true};
 ghost use Rattle.std.specs.Io.KnownBytes.{prepend_known};
 ghost use Rattle.blob_base.specs.Faults.{KeepsEnd};
-ghost use Rattle.blob_base.specs.declared.faults.StoreRefusal.TheVariants.{TooSmall};
 ghost use Rattle.disk_model.specs.Disks.{Keeps};
 ghost use Rattle.store_model.specs.Cost.{Cost};
 ghost use Rattle.std.specs.FinMap.{FinMap};

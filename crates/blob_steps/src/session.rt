@@ -3,7 +3,7 @@
 ghost use Rattle.std.specs.Prelude.{◌≡◌, ◌<◌, ◌≤◌, ◌+◌, ◌^◌, ℕ, Some, None, option_map, IfOk, OnErr, MatchResult};
 ghost use Rattle.blob_script.specs.Answers.{model_line};
 ghost use Rattle.blob_script.specs.Contents.{content_bytes};
-ghost use Rattle.store_model.specs.Store.{Store, content_at, number_at};
+ghost use Rattle.store_model.specs.Store.{Store, number_at};
 ghost use Rattle.std.specs.FinMap as map;
 ghost use Rattle.store_model.specs.Turn as turn;
 ghost use Rattle.store_model.specs.Turn.{put_turn};

@@ -1,6 +1,6 @@
 // The world of a run: its vault, its sessions and their queue.
 
-ghost use Rattle.std.specs.Prelude.{◌≡◌, ℕ, ◌+◌, ◌<◌, ◌≤◌, ◌^◌, ◌++◌, [], ◌∷◌, List, length, map, drop, None, IfErr, IfOk, IsTrue, MatchResult, OnOk, slice_get, Some};
+ghost use Rattle.std.specs.Prelude.{◌≡◌, ◌<◌, ◌≤◌, ◌^◌, ◌++◌, [], length, map, None, IfErr, IfOk, IsTrue, MatchResult, OnOk, Some};
 ghost use Rattle.std.specs.List.{All};
 ghost use Rattle.blob_script.specs.Answers.{model_line};
 ghost use Rattle.blob_script.specs.Contents.{content_bytes};
@@ -8,7 +8,6 @@ ghost use Rattle.blob_script.specs.Words.{IsSession, model_action, model_step};
 ghost use Rattle.disk_model.specs.Disks.{OnlyReads};
 ghost use Rattle.group_plan.specs.Plans.{model_reply};
 ghost use Rattle.store_model.specs.Answer.{Session as SessionAnswer, answer_text};
-ghost use Rattle.store_model.specs.Group.{Member, reply_of};
 ghost use Rattle.store_model.specs.Play.{transact};
 ghost use Rattle.store_model.specs.Script as script;
 ghost use Rattle.store_model.specs.Store.{Store as ModelStore};

@@ -1,6 +1,6 @@
 // Blocks of pages in the order of their heads.
 
-ghost use Rattle.std.specs.Prelude.{◌≡◌, ◌≢◌, ℕ, ◌+◌, ◌%◌, ◌^◌, ◌<◌, ◌≤◌, List, take, drop, length, get_or, Contains, IfSome, IfNone};
+ghost use Rattle.std.specs.Prelude.{◌≡◌, ℕ, ◌+◌, ◌%◌, ◌^◌, ◌<◌, ◌≤◌, take, drop, length, get_or, Contains, IfSome, IfNone};
 ghost use Rattle.store_model.specs.Shape.{pages_of_tier};
 ghost use Rattle.store_model.specs.Space.{AreBlocks, IsFull, IsLeastFree, IsLeastOwnedTwice, end_of};
 ghost use Rattle.extent_alloc.specs.Order.{AllBelow, AllFrom, AreSorted, InOrder};

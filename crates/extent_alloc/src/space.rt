@@ -1,8 +1,8 @@
 // The space of a data area.
 
-ghost use Rattle.std.specs.Prelude.{◌≡◌, ℕ, ◌+◌, ◌%◌, ◌^◌, ◌<◌, ◌≤◌, ◌∷◌, min, Contains, IfOk, OnOk, IfErr, OnErr};
+ghost use Rattle.std.specs.Prelude.{◌≡◌, ◌+◌, ◌%◌, ◌^◌, ◌≤◌, ◌∷◌, min, Contains, IfOk, OnOk, IfErr, OnErr};
 ghost use Rattle.std.specs.List.Sorted.{IsPermutation};
-ghost use Rattle.store_model.specs.Space.{Apart, AreBlocks, IsFull, IsLeastFree, IsLeastOwnedTwice};
+ghost use Rattle.store_model.specs.Space.{Apart, AreBlocks, IsFull, IsLeastFree};
 ghost use Rattle.extent_alloc.specs.Faults.{IsBuildFault};
 
 use crate::blocks::{index_of, least_gap, least_shared};

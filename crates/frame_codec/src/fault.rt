@@ -1,6 +1,6 @@
 // Why bytes are no body.
 
-ghost use Rattle.std.specs.Prelude.{◌≡◌, ◌+◌, ◌<◌, ◌^◌, IfErr};
+ghost use Rattle.std.specs.Prelude.{◌≡◌, ◌+◌, ◌<◌, ◌^◌};
 ghost use Rattle.frame_codec.specs.Faults.{IfBad, fault_behind};
 ghost use Rattle.frame_codec.specs.declared.fault.FrameFault.TheVariants as fault;
 

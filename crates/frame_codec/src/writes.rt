@@ -18,7 +18,7 @@ pub struct Writes {
 }
 
 impl Model for Writes {
-    ghost use Rattle.std.specs.Prelude.{List, ◌≤◌, length};
+    ghost use Rattle.std.specs.Prelude.{List};
     ghost use Rattle.frame_codec.specs.Writes.{AreWrites};
     ghost use Rattle.frame_codec.specs.declared.entry.Write.{Write as Written};
 

@@ -13,7 +13,7 @@ use Rattle.frame_codec.specs.declared.entry.Entry.{Entry}
 use Rattle.relation.specs.Parts.{bytes_bound, encoded_by}
 use Rattle.store_model.specs.Group.{Commit, Member, commit_of, commits_of, does_touch, is_among, member_of, members_from, no_tally, reply_of, taken_blocks, tally_after}
 use Rattle.store_model.specs.Judgement as model
-use Rattle.store_model.specs.Judgement.{Ahead, Asked, Conflict, Judgement, Ledger, NoNumber, growth_of, judge, judge_number, judge_places, judge_reads, judge_room, number_held}
+use Rattle.store_model.specs.Judgement.{Ahead, Asked, Judgement, Ledger, NoNumber, growth_of, judge, judge_number, judge_places, judge_reads, judge_room}
 use Rattle.store_model.specs.Key.{key_order}
 use Rattle.store_model.specs.Placing.{Need, Placed, freed_blocks, new_blocks, place_all}
 use Rattle.store_model.specs.Space.{Block}

@@ -14,7 +14,7 @@ use Rattle.std.proofs.lemmas.List.Sorted.{IsPermutation-sym}
 use Rattle.extent_alloc.specs.Parts.{Parts}
 use Rattle.relation.specs.Parts.{owned_by}
 use Rattle.store_model.specs.Judgement as model
-use Rattle.store_model.specs.Judgement.{Ahead, Asked, Conflict, Judgement, Ledger, NoNumber, NoRoom, NoSpace, Rejection, growth_of, judge, judge_number, judge_places, judge_reads, judge_room, number_held}
+use Rattle.store_model.specs.Judgement.{Ahead, Asked, Ledger, NoNumber, NoRoom, NoSpace, judge, judge_places, judge_reads, judge_room}
 use Rattle.store_model.specs.Key.{key_order}
 use Rattle.store_model.specs.Placing.{Placed, place_all}
 use Rattle.store_model.specs.State.{State, greatest_number}

@@ -1,15 +1,14 @@
 // The judgement of a request in its group.
 
-ghost use Rattle.std.specs.Prelude.{◌≡◌, ◌+◌, ◌-◌, ◌≤◌, ◌<◌, ◌++◌, IfOk, IfErr};
+ghost use Rattle.std.specs.Prelude.{◌≡◌, ◌+◌, ◌≤◌, ◌<◌, ◌++◌, IfOk, IfErr};
 ghost use Rattle.std.specs.FinMap as map;
 ghost use Rattle.std.specs.List.Sorted.{IsPermutation};
 ghost use Rattle.store_model.specs.State.{greatest_number};
 ghost use Rattle.store_model.specs.Turn.{same_number};
 ghost use Rattle.relation.specs.Parts.{bytes_bound, encoded_by, owned_by};
-ghost use Rattle.txn.specs.Requests.{asked_of};
-ghost use Rattle.group_plan.specs.Plans.{DoesLengthen, ledger_by};
+ghost use Rattle.group_plan.specs.Plans.{DoesLengthen};
 ghost use Rattle.group_plan.specs.Takings.{IsListed};
-ghost use Rattle.group_plan.specs.Judgements.{IsConflict, IsJudged, IsRefusal, number_by, tally_by};
+ghost use Rattle.group_plan.specs.Judgements.{IsConflict, IsJudged, IsRefusal, number_by};
 ghost use Rattle.group_plan.specs.declared.judging.Refusal.TheVariants as refusal;
 
 use crate::placing::place_all;

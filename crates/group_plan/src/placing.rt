@@ -1,6 +1,6 @@
 // The places that a request's changes take in a space.
 
-ghost use Rattle.std.specs.Prelude.{◌≡◌, ℕ, ◌≤◌, ◌<◌, List, Some, length, option_copied, option_map, IfSome, IfOk, IfErr};
+ghost use Rattle.std.specs.Prelude.{◌≡◌, ◌≤◌, length, option_copied, option_map, IfSome, IfOk, IfErr};
 ghost use Rattle.std.specs.FinMap as map;
 ghost use Rattle.store_model.specs.Holds.{place_of};
 ghost use Rattle.store_model.specs.Placing.{bytes_at, object_bytes, place_held, tiers_behind, tiers_of};

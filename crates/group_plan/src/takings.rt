@@ -1,6 +1,6 @@
 // The blocks that a group takes from a space.
 
-ghost use Rattle.std.specs.Prelude.{◌≡◌, ℕ, ◌+◌, ◌%◌, ◌<◌, ◌≤◌, List, [], ◌∷◌, ◌++◌, length, take, drop, is_some, vec_capacity, IfOk, OnOk, IfErr, if◌then◌else◌};
+ghost use Rattle.std.specs.Prelude.{◌≡◌, ◌+◌, ◌%◌, ◌<◌, ◌≤◌, List, [], ◌∷◌, ◌++◌, length, take, drop, is_some, vec_capacity, IfOk, OnOk, IfErr, if◌then◌else◌};
 ghost use Rattle.std.specs.List.Sorted.{IsPermutation};
 ghost use Rattle.store_model.specs.Places.{extent_tiers};
 ghost use Rattle.store_model.specs.Shape.{pages_of_tier};

@@ -1,10 +1,9 @@
 // Whether a request touches what entries change.
 
-ghost use Rattle.std.specs.Prelude.{◌≡◌, map};
+ghost use Rattle.std.specs.Prelude.{◌≡◌};
 ghost use Rattle.std.specs.FinMap as fin;
 ghost use Rattle.std.specs.List.{list_any};
 ghost use Rattle.store_model.specs.Group.{does_touch, is_among};
-ghost use Rattle.frame_codec.specs.Writes.{key_of_write};
 ghost use Rattle.txn.specs.Requests.{asked_of};
 ghost use Rattle.group_plan.specs.Touches.{entry_keys, write_keys};
 

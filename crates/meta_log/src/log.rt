@@ -3,7 +3,7 @@
 ghost use Rattle.std.specs.Prelude.{◌≡◌, ℕ, ◌+◌, ◌-◌, ◌^◌, ◌<◌, ◌≤◌, length, IsTrue, IfErr, OnErr, OnOk, IsErrOf};
 ghost use Rattle.disk_model.specs.Disks.{Caused, OnlyWrites};
 ghost use Rattle.store_model.specs.Disk.{Took, zero_page};
-ghost use Rattle.store_model.specs.Layout.{log_page, total_pages};
+ghost use Rattle.store_model.specs.Layout.{total_pages};
 ghost use Rattle.store_model.specs.Log.{IsLogPage, at_log, body_page, body_pages, open_page};
 ghost use Rattle.meta_log.specs.LayFaults.{LayCameFrom};
 ghost use Rattle.meta_log.specs.declared.fault.LayFault.TheVariants.{LogFull};

@@ -2,7 +2,7 @@
 
 ghost use Rattle.std.specs.Prelude.{◌≡◌, ℕ, ◌+◌, ◌^◌, ◌<◌, ◌≤◌, length, IsTrue, OnOk};
 ghost use Rattle.disk_model.specs.Disks.{Caused, OnlyWrites};
-ghost use Rattle.store_model.specs.Disk.{Took, page_bytes, page_of};
+ghost use Rattle.store_model.specs.Disk.{Took};
 ghost use Rattle.store_model.specs.Images.{Within};
 ghost use Rattle.store_model.specs.Log.{body_page, body_pages};
 

@@ -1,6 +1,6 @@
 // The format of a new disk.
 
-ghost use Rattle.std.specs.Prelude.{◌≡◌, ℕ, ◌<◌, ◌≤◌, IfErr, IsErrOf, IsTrue, OnOk};
+ghost use Rattle.std.specs.Prelude.{◌≡◌, ◌<◌, IfErr, IsErrOf, IsTrue, OnOk};
 ghost use Rattle.std.specs.FinMap.{empty};
 ghost use Rattle.blob_base.specs.declared.faults.StoreRefusal.TheVariants.{TooSmall};
 ghost use Rattle.disk_model.specs.Disks.{OnlyWrites};

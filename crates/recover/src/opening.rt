@@ -11,7 +11,7 @@ ghost use Rattle.recover.specs.declared.fault.RecoverFault.TheVariants.{Refused}
 ghost use Rattle.relation.specs.Parts.{encoded_by};
 ghost use Rattle.store_model.specs.Cost as cost;
 ghost use Rattle.store_model.specs.Drops.{Drops};
-ghost use Rattle.store_model.specs.Half.{IsHalf, picked};
+ghost use Rattle.store_model.specs.Half.{picked};
 ghost use Rattle.store_model.specs.HalfRefusals.{FindsHalf};
 ghost use Rattle.store_model.specs.Layout.{total_pages};
 ghost use Rattle.store_model.specs.Reading.{Found as StoreFound, Opened, Reads, blocks_of_states};

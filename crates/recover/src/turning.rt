@@ -1,6 +1,6 @@
 // The turn to a half that is written anew.
 
-ghost use Rattle.std.specs.Prelude.{◌≡◌, ℕ, ◌+◌, ◌-◌, ◌*◌, ◌/◌, ◌<◌, ◌≤◌, [], OnOk, IsTrue};
+ghost use Rattle.std.specs.Prelude.{◌≡◌, ◌+◌, ◌-◌, ◌*◌, ◌/◌, ◌<◌, ◌≤◌, [], OnOk, IsTrue};
 ghost use Rattle.std.specs.FinMap.{FinMap, entries};
 ghost use Rattle.check_point.specs.Halves.{Stand};
 ghost use Rattle.check_point.specs.Writers.{HasTaken};

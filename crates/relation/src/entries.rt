@@ -1,6 +1,6 @@
 // Objects in the order of their keys.
 
-ghost use Rattle.std.specs.Prelude.{◌≡◌, ◌<◌, ◌≤◌, ◌+◌, ℕ, length, map, MatchResult};
+ghost use Rattle.std.specs.Prelude.{◌≤◌, length, MatchResult};
 ghost use Rattle.relation.specs.Entries.{AllBefore, AllBehind, IsAt, entries_of, are_sorted};
 
 use blob_base::Key;

@@ -1,6 +1,6 @@
 // The relation of a store.
 
-ghost use Rattle.std.specs.Prelude.{◌≡◌, ◌+◌, ◌-◌, ◌^◌, ◌<◌, ◌≤◌, ◌==◌, ◌⊎◌, None, Some, IsTrue, if◌then◌else◌, slice_get, option_copied, vec_len, vec_capacity, IfOk, OnOk, OnErr};
+ghost use Rattle.std.specs.Prelude.{◌≡◌, ◌+◌, ◌-◌, ◌<◌, ◌≤◌, ◌==◌, ◌⊎◌, None, Some, IsTrue, if◌then◌else◌, slice_get, option_copied, vec_len, vec_capacity, IfOk, OnOk, OnErr};
 ghost use Rattle.std.specs.FinMap as map;
 ghost use Rattle.store_model.specs.Tuple.{greatest_tuple};
 ghost use Rattle.relation.specs.Parts.{blocks_by, bytes_bound, encoded_by, owned_by};

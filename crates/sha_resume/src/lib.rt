@@ -13,7 +13,7 @@
 
 ghost use Rattle.std.specs.Prelude.{◌≡◌, ℕ, ◌+◌, ◌*◌, ◌/◌, ◌%◌, ◌^◌, ◌<◌, List, ◌++◌, length};
 ghost use Rattle.sha2.specs.Sha256.{hash_after, sha256 as library_sha256};
-ghost use Rattle.store_model.specs.Hash.{Leads, bytes_of_state, close, initial_state, padding, sha256, state_after};
+ghost use Rattle.store_model.specs.Hash.{Leads, bytes_of_state, close, initial_state, padding, sha256};
 
 use block::{BLOCK_LEN, compress};
 use std::marker::Model;

@@ -4,7 +4,7 @@ use Rattle.std.proofs.lemmas.Bool.{cases_lt}
 use Rattle.store_model.specs.Closing as why
 use Rattle.store_model.specs.Disk.{HasPages, Image}
 use Rattle.store_model.specs.Half.{picked}
-use Rattle.store_model.specs.HalfRefusals.{FindsHalf, HalfRefusal, RefusesHalf}
+use Rattle.store_model.specs.HalfRefusals.{HalfRefusal, RefusesHalf}
 use Rattle.store_model.specs.HalfRefusals as half
 use Rattle.store_model.specs.LogReading.{HasBodies, LacksBody, StoredBody}
 use Rattle.store_model.specs.Reading.{AreAllKept, Found, Gives, KeptIn, Opened, Reading, Reads, Refused, RefusesLog, blocks_of_states, least_pages}

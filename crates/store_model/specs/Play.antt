@@ -9,7 +9,7 @@ use Rattle.store_model.specs.Script.{Action, Line, Step, line_at, lines_of}
 use Rattle.store_model.specs.Script as script
 use Rattle.store_model.specs.Space.{Block}
 use Rattle.store_model.specs.Store.{Store}
-use Rattle.store_model.specs.Turn.{Session, Stage, session_after}
+use Rattle.store_model.specs.Turn.{Stage, session_after}
 use Rattle.store_model.specs.Turn as turn
 use Rattle.store_model.specs.World.{Outcome, World, checkpointed, lead, with_session, world_over}
 

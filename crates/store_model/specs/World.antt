@@ -10,7 +10,7 @@ use Rattle.store_model.specs.Judgement.{Asked, Ledger, Rejection}
 use Rattle.store_model.specs.Judgement as why
 use Rattle.store_model.specs.Key.{key_order}
 use Rattle.store_model.specs.Layout.{Layout, data_pages}
-use Rattle.store_model.specs.Placing.{Holding, Need, Placed, new_place, object_bytes}
+use Rattle.store_model.specs.Placing.{Holding, Need, new_place, object_bytes}
 use Rattle.store_model.specs.Placing as need
 use Rattle.store_model.specs.Space.{Block, blocks_of}
 use Rattle.store_model.specs.Store.{Object, Store, content_at}

@@ -1,6 +1,6 @@
 // Contents on the pages of a disk in memory.
 
-ghost use Rattle.std.specs.Prelude.{◌≡◌, ◌<◌, ◌≤◌, length};
+ghost use Rattle.std.specs.Prelude.{◌≡◌, ◌<◌, length};
 ghost use Rattle.store_model.specs.Holds.{place_of};
 ghost use Rattle.store_model.specs.Space.{Apart, AreBlocks, blocks_of};
 

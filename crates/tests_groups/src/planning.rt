@@ -1,6 +1,5 @@
 // A group that is planned over the states of a store and the space of its data area, and what it is compared with.
 
-ghost use Rattle.std.specs.Prelude.{◌≡◌, ◌%◌, ◌<◌, ◌≤◌, []};
 ghost use Rattle.std.specs.List.{All};
 ghost use Rattle.std.specs.List.Sorted.{IsPermutation};
 ghost use Rattle.relation.specs.Parts.{owned_by};

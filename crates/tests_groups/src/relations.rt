@@ -1,6 +1,6 @@
 // The relation of a store: states by their keys.
 
-ghost use Rattle.std.specs.Prelude.{◌≡◌, ◌+◌, ◌≤◌};
+ghost use Rattle.std.specs.Prelude.{◌+◌, ◌≤◌};
 
 use arrayvec::ArrayVec;
 use blob_base::Key;

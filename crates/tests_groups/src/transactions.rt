@@ -1,7 +1,5 @@
 // Transactions, call by call, and the requests that they become.
 
-ghost use Rattle.std.specs.Prelude.{◌≡◌, ◌<◌};
-
 use arrayvec::ArrayVec;
 use blob_base::{Bytes, Key};
 use blob_state::{BlobState, Draft, MAX_NUMBER};

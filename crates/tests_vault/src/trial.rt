@@ -1,7 +1,6 @@
 // A vault over a disk of the smallest layout, and what it is compared with. Half 0's log begins at page 3, half 1's at page 515,
 // and the data area at page 1029.
 
-ghost use Rattle.std.specs.Prelude.{◌≡◌, ◌+◌, ◌≤◌, IfOk, length};
 ghost use Rattle.vault.specs.Pours.{AreWhole};
 
 use blob_base::{Bytes, Bytes64, Key, PAGE_BYTES};

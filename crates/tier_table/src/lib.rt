@@ -16,9 +16,8 @@
 //! | 10 | 1024 | 40 to 126 | 93,180 |
 #![tactic(auto)]
 
-ghost use Rattle.std.specs.Prelude.{◌≡◌, ℕ, ◌+◌, ◌-◌, ◌/◌, ◌<◌, ◌≤◌, IfOk, IfErr, OnOk};
-ghost use Rattle.store_model.specs.Disk.{page_bytes};
-ghost use Rattle.store_model.specs.Shape.{tier_of, pages_of_tier, pages_of_extent, held_by, greatest_size, HasShape, LiesAt, UsesExtent, pages_used};
+ghost use Rattle.std.specs.Prelude.{◌≡◌, ℕ, ◌<◌, ◌≤◌, IfOk, IfErr, OnOk};
+ghost use Rattle.store_model.specs.Shape.{tier_of, pages_of_tier, held_by, greatest_size, HasShape, LiesAt, UsesExtent, pages_used};
 ghost use Rattle.tier_table.specs.Values.{shape_of};
 
 mod values;

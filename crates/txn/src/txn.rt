@@ -1,10 +1,10 @@
 // Transactions on the way.
 
-ghost use Rattle.std.specs.Prelude.{◌≡◌, ◌≢◌, ℕ, ◌<◌, ◌≤◌, length, not, count_by, is_some, option_map, Some, false, IfOk, IfErr, OnOk, OnErr, MatchResult};
+ghost use Rattle.std.specs.Prelude.{◌≡◌, ◌≢◌, ◌<◌, ◌≤◌, length, not, count_by, is_some, option_map, false, IfOk, IfErr, OnOk, OnErr, MatchResult};
 ghost use Rattle.std.specs.FinMap as map;
 ghost use Rattle.store_model.specs.Shape.{greatest_size};
 ghost use Rattle.store_model.specs.Transaction as model;
-ghost use Rattle.store_model.specs.Transaction.{is_touched, new_transaction, touched_count};
+ghost use Rattle.store_model.specs.Transaction.{is_touched, new_transaction};
 ghost use Rattle.store_model.specs.Turn.{has_moved, is_one_too_many, is_stale, with_changed, with_read};
 ghost use Rattle.txn.specs.Refusals.{IsCause, IsDeleteRefusal, IsPutRefusal, IsReadRefusal};
 ghost use Rattle.txn.specs.Requests.{model_change, transaction_of};

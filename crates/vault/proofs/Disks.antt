@@ -19,7 +19,6 @@ use Rattle.store_model.specs.Space.{Apart, Block, owners}
 use Rattle.store_model.specs.Standing.{AllStand, SameObjects}
 use Rattle.store_model.specs.State.{State}
 use Rattle.store_model.specs.Store as model
-use Rattle.store_model.specs.Store.{Object}
 use Rattle.txn.specs.declared.request.Request.{Request}
 use Rattle.vault.specs.Leads.{StoreStands}
 use Rattle.vault.specs.Pours.{AreWhole, Poured, made_by, pour_blocks, pours_of_all, requests_at}

@@ -14,7 +14,7 @@ use Rattle.frame_codec.specs.declared.entry.Write.{Write}
 use Rattle.frame_codec.specs.declared.entry.Write.TheVariants as write
 use Rattle.group_plan.specs.Plans.{DoesWrite, IsEntryOf, IsMadeBy, IsWritten, committed}
 use Rattle.store_model.specs.Frame as model
-use Rattle.store_model.specs.Frame.{DoKeysRise, IsEntry, IsWrite, key_of_write}
+use Rattle.store_model.specs.Frame.{IsEntry, IsWrite, key_of_write}
 use Rattle.store_model.specs.Group.{Commit, commit_by, does_touch, member_of, members_from, tally_after}
 use Rattle.store_model.specs.Holds.{place_of}
 use Rattle.store_model.specs.Judgement.{Judgement, Ledger, Tally, judge}

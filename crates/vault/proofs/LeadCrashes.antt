@@ -12,7 +12,7 @@ use Rattle.store_model.specs.Group.{Commit, Member, commits_of, no_tally}
 use Rattle.store_model.specs.Images.{LeavesOnly, Stayed, Story}
 use Rattle.store_model.specs.Judgement.{Ledger}
 use Rattle.store_model.specs.Layout.{data_pages}
-use Rattle.store_model.specs.Reading.{Found, last_number}
+use Rattle.store_model.specs.Reading.{last_number}
 use Rattle.store_model.specs.Reading as reading
 use Rattle.store_model.specs.Standing.{AllHeld, SameObjects}
 use Rattle.store_model.specs.Store as model

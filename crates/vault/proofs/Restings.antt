@@ -8,7 +8,6 @@ use Rattle.store_model.specs.Disk.{Image}
 use Rattle.store_model.specs.Layout.{Layout}
 use Rattle.store_model.specs.Standing.{AllHeld, AllStand}
 use Rattle.store_model.specs.Store as model
-use Rattle.store_model.specs.Store.{Object}
 use Rattle.store_model.specs.Survival.{ReadsAs}
 use Rattle.txn.specs.declared.request.Request.{Request}
 use Rattle.vault.specs.Crashes.{LeadRests}

@@ -16,7 +16,6 @@ use Rattle.store_model.specs.Placing.{new_place}
 use Rattle.store_model.specs.Space.{Block, blocks_of}
 use Rattle.store_model.specs.State.{IsState, State, Tells}
 use Rattle.store_model.specs.Store as model
-use Rattle.store_model.specs.Store.{Object}
 use Rattle.store_model.specs.Transaction.{apply}
 use Rattle.relation.specs.Changes.{bytes_limit, with_entries}
 use Rattle.relation.specs.Parts.{encoded_by}

@@ -1,8 +1,6 @@
 // What is kept of a committed transaction.
 
 ghost use Rattle.std.specs.Prelude.{◌≡◌, IfOk, map};
-ghost use Rattle.store_model.specs.Frame.{entry_spelling};
-ghost use Rattle.frame_codec.specs.Values.{model_entry};
 ghost use Rattle.vault.specs.Keeps.{done_of, print_of as model_print};
 
 use blob_base::{Bytes, Key, Listed, OutOfMemory};

@@ -1,36 +1,28 @@
 // The vault: a store on a disk, and what it has of it in memory.
 
-ghost use Rattle.std.specs.Prelude.{◌≡◌, ℕ, ◌+◌, ◌-◌, ◌*◌, ◌≤◌, ◌⊎◌, [], ◌∷◌, ◌++◌, Err, IfErr, IfOk, IsErrOf, IsTrue, MatchResult, None, OnErr, OnOk, Some, drop, length, map as each, option_copied, zip};
-ghost use Rattle.std.specs.List.{All, sum_by};
+ghost use Rattle.std.specs.Prelude.{◌≡◌, ℕ, ◌+◌, ◌-◌, ◌≤◌, ◌⊎◌, Err, IfErr, IfOk, IsTrue, MatchResult, None, OnOk, Some, option_copied};
 ghost use Rattle.std.specs.FinMap as map;
 ghost use Rattle.blob_base.specs.declared.faults.StoreRefusal.{StoreRefusal as Why};
-ghost use Rattle.disk_model.specs.Disks.{Keeps, OnlyReads, OnlyWrites};
-ghost use Rattle.frame_codec.specs.Values.{model_entries};
-ghost use Rattle.group_plan.specs.Plans.{committed, members_of};
+ghost use Rattle.disk_model.specs.Disks.{OnlyReads, OnlyWrites};
 ghost use Rattle.recover.specs.Faults.{CameFrom, IsRead};
 ghost use Rattle.recover.specs.Openings.{BeginsAt, IsFound, IsMetadata, LeavesFrom, TookOpening};
 ghost use Rattle.recover.specs.Turns.{IsTurnPage};
 ghost use Rattle.recover.specs.declared.fault.RecoverFault.TheVariants.{Refused};
-ghost use Rattle.relation.specs.Changes.{with_entries};
 ghost use Rattle.relation.specs.Parts.{encoded_by};
 ghost use Rattle.store_model.specs.Cost.{Cost, with_opening, with_turn};
 ghost use Rattle.store_model.specs.Disk.{Took};
-ghost use Rattle.store_model.specs.Frame.{body_bytes, body_spelling};
 ghost use Rattle.store_model.specs.Images.{LeavesOnly, Settled};
-ghost use Rattle.store_model.specs.Layout.{Layout, data_pages};
+ghost use Rattle.store_model.specs.Layout.{Layout};
 ghost use Rattle.store_model.specs.Log.{body_pages};
 ghost use Rattle.store_model.specs.Reading.{Opened, Reads};
-ghost use Rattle.store_model.specs.Space.{Apart, AreBlocks};
 ghost use Rattle.store_model.specs.Standing.{AllHeld};
 ghost use Rattle.store_model.specs.Store.{Store as ModelStore};
 ghost use Rattle.store_model.specs.Survival.{ReadsAs};
 ghost use Rattle.vault.specs.Faults.{IsShutBy, cause_of as model_cause};
 ghost use Rattle.vault.specs.declared.fault.LeadFault.TheVariants.{Shut};
-ghost use Rattle.vault.specs.declared.fault.LeadFault.TheVariants as lead_fault;
-ghost use Rattle.vault.specs.Keeps.{HasFailed, HasKept, IsBegun, done_of};
-ghost use Rattle.vault.specs.Leads.{Costs, IsOpenedAs, Led, MayHaveWritten, StoreStands, ledger_in};
-ghost use Rattle.vault.specs.Pours.{AreAt, AreWhole, HasRoom, Poured, pour_blocks, pour_pages, pours_of_all, requests_at};
-ghost use Rattle.vault.specs.Vaults.{InWindows, IsNextFrame, IsSound, IsUnmade, IsVault, SameHeld, found_of, turn_pages, turn_syncs, turned_gate, turned_log};
+ghost use Rattle.vault.specs.Keeps.{IsBegun};
+ghost use Rattle.vault.specs.Leads.{Costs, IsOpenedAs, StoreStands};
+ghost use Rattle.vault.specs.Vaults.{IsSound, IsVault, SameHeld, found_of, turned_log};
 
 use crate::done::History;
 use crate::fault::{Cause, LeadFault, OpenFailed, cause_of};

@@ -1,6 +1,6 @@
 // What a vault keeps of its opening and of what it has done, as data: what a crash may leave is told by these.
 
-ghost use Rattle.std.specs.Prelude.{◌≡◌, ℕ, ◌++◌, [], ◌∷◌, IfOk, OnErr, OnOk, length, map, take, zip};
+ghost use Rattle.std.specs.Prelude.{◌≡◌, ◌++◌, [], ◌∷◌, IfOk, OnErr, OnOk, length, map, take, zip};
 ghost use Rattle.store_model.specs.Half.{tuples_spelling};
 ghost use Rattle.vault.specs.Keeps.{IsBegun, done_of};
 ghost use Rattle.vault.specs.Pours.{AreAt, requests_at};

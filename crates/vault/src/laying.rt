@@ -1,24 +1,14 @@
 // The body of a frame, laid behind the gate of a log.
 
-ghost use Rattle.std.specs.Prelude.{◌≡◌, ℕ, ◌+◌, ◌-◌, ◌*◌, ◌<◌, ◌≤◌, IfOk, None, OnErr, OnOk, IsTrue, length, zip};
-ghost use Rattle.std.specs.List.{All, sum_by};
-ghost use Rattle.std.specs.List.Sorted.{IsPermutation};
+ghost use Rattle.std.specs.Prelude.{◌≡◌, ◌+◌, ◌-◌, ◌*◌, ◌<◌, ◌≤◌, OnOk, IsTrue, length};
 ghost use Rattle.disk_model.specs.Disks.{Caused, OnlyWrites};
-ghost use Rattle.frame_codec.specs.Values.{model_entries};
-ghost use Rattle.recover.specs.Openings.{IsFound};
-ghost use Rattle.relation.specs.Changes.{with_entries};
-ghost use Rattle.relation.specs.Parts.{encoded_by, owned_by};
+ghost use Rattle.relation.specs.Parts.{encoded_by};
 ghost use Rattle.store_model.specs.Disk.{Took, page_bytes};
-ghost use Rattle.store_model.specs.Half.{IsHalf};
 ghost use Rattle.store_model.specs.Images.{Settled};
-ghost use Rattle.store_model.specs.Layout.{data_pages, total_pages};
-ghost use Rattle.store_model.specs.Log.{at_log, body_pages, open_page};
-ghost use Rattle.store_model.specs.Reading.{blocks_of_states};
-ghost use Rattle.store_model.specs.Space.{Apart, AreBlocks};
-ghost use Rattle.store_model.specs.State.{greatest_number};
+ghost use Rattle.store_model.specs.Layout.{total_pages};
+ghost use Rattle.store_model.specs.Log.{body_pages};
 ghost use Rattle.store_model.specs.Windows.{IsBodyPage};
-ghost use Rattle.vault.specs.Pours.{AreAt, AreWhole, HasRoom, IsSecondPage, Poured, pour_blocks, pour_pages, pours_of_all, requests_at};
-ghost use Rattle.vault.specs.Vaults.{HasLaid, InFirst, InWindows, IsAtRest, IsCommitted, IsHeld, IsNextFrame, IsSound, MayHaveTurned, SameHeld, SameStore, StandsBehind, found_of, turn_pages, turn_syncs, turned_gate, turned_log};
+ghost use Rattle.vault.specs.Vaults.{HasLaid, InFirst, IsAtRest, IsHeld, IsSound, MayHaveTurned, SameHeld, StandsBehind, turn_pages, turn_syncs, turned_gate};
 
 use crate::memory::Memory;
 use blob_base::IoFault;

@@ -1,8 +1,7 @@
 // The contents of the entries of a group, written to the places of the states that they set.
 
-ghost use Rattle.std.specs.Prelude.{◌≡◌, ℕ, ◌+◌, ◌≤◌, ◌<◌, zip, OnOk, IsErrOf, IsTrue};
+ghost use Rattle.std.specs.Prelude.{◌≤◌, zip, OnOk, IsTrue};
 ghost use Rattle.std.specs.List.{All, sum_by};
-ghost use Rattle.blob_base.specs.Faults.{HasCause};
 ghost use Rattle.disk_model.specs.Disks.{Caused, OnlyWrites};
 ghost use Rattle.store_model.specs.Disk.{Took};
 ghost use Rattle.store_model.specs.Layout.{data_pages, total_pages};

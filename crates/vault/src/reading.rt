@@ -1,6 +1,6 @@
 // Bytes of the contents of a vault, read and verified.
 
-ghost use Rattle.std.specs.Prelude.{◌≡◌, ◌≢◌, ℕ, ◌-◌, ◌≤◌, List, None, Option, Some, Ok, Err, IfErr, IfOk, IsTrue, drop, length, min, take};
+ghost use Rattle.std.specs.Prelude.{◌≡◌, ◌≢◌, ℕ, ◌-◌, List, None, Some, Ok, Err, IfErr, IfOk, IsTrue, drop, length, min, take};
 ghost use Rattle.std.specs.FinMap as map;
 ghost use Rattle.disk_model.specs.Disks.{OnlyReads};
 ghost use Rattle.extent_io.specs.declared.verdict.Verdict.TheVariants.{Damaged, Whole};

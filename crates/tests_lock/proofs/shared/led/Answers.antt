@@ -1,5 +1,5 @@
 -- A request without appends in a queue of its own.
-use Rattle.std.proofs.Common.{◌≡◌, List, [], ◌∷◌, ◌++◌, arith, sym, subst}
+use Rattle.std.proofs.Common.{◌≡◌, [], ◌∷◌, ◌++◌, arith, sym, subst}
 use Rattle.std.proofs.lemmas.List.Elements.{All-push}
 use Rattle.txn.specs.Txns.{NoAppends}
 use Rattle.txn.specs.declared.request.Request.{Request}
