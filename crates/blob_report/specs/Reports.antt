@@ -1,5 +1,5 @@
 -- The runs that format a store, show it and check it, in the words of the definitions.
-use Rattle.std.specs.Prelude.{◌≡◌, ◌≤◌, ◌⊎◌, ℕ, ⊤, IsTrue, List, [], ◌∷◌, Some}
+use Rattle.std.specs.Prelude.{◌≡◌, ◌⊎◌, ℕ, ⊤, IsTrue, List, [], ◌∷◌, Some}
 use Rattle.std.specs.Io.KnownBytes.{Appends}
 use Rattle.std.specs.FinMap.{get}
 use Rattle.std.specs.List.{flat_map}
@@ -11,27 +11,22 @@ use Rattle.blob_script.specs.declared.status.Status.TheVariants as status
 use Rattle.disk_model.specs.Disks.{OnlyReads}
 use Rattle.disk_model.specs.declared.disk.Disk as disk_trait
 use Rattle.io_ends.specs.declared.traits.Sink as sink_trait
-use Rattle.recover.specs.Openings.{BeginsAt, LeavesFrom, TookOpening}
+use Rattle.recover.specs.Openings.{BeginsAt, MayLeaveFound, TookOpening}
 use Rattle.recover.specs.declared.fault.RecoverFault.{RecoverFault}
 use Rattle.recover.specs.declared.fault.RecoverFault.TheVariants as fault
 use Rattle.relation.specs.Parts.{encoded_by}
 use Rattle.store_model.specs.Disk.{Image}
-use Rattle.store_model.specs.Layout.{Layout}
 use Rattle.store_model.specs.Reading.{Found, Opened, Reads, Refused}
 use Rattle.store_model.specs.Report.{Damage, HasDamages, check_text, damage_line, show_text, state_line}
 use Rattle.store_model.specs.State.{State}
-use Rattle.store_model.specs.Store.{Store}
-use Rattle.store_model.specs.Survival.{ReadsAs}
 use Rattle.store_model.specs.Verify.{IsDamage}
 
--- A store with all its contents that the disk read as is what a crash leaves, at any moment from the return of the first sync on, and where
--- nothing was pending, from the start on; or that sync didn't return well, and nothing was written.
+-- Whatever store the disk read as, whole or not, is what a crash leaves, at any moment from the return of the first sync on, and where nothing
+-- was pending, from the start on; or that sync didn't return well, and nothing was written.
 abbrev pub StoreSurvives : {D : Type 0} → disk_trait.Ghosts D → D → D → Type 0
 StoreSurvives g old new =
-    IsTrue g.tells → (layout : Layout) (store : Store) (since : ℕ) → BeginsAt g old since
-    → ReadsAs (g.size old) (g.story old).reads layout store.objects store.last
-    → LeavesFrom g (λ image. ReadsAs (g.size old) image layout store.objects store.last) since new
-    ⊎ (OnlyReads g old new × ((g.story new).time ≤ since))
+    IsTrue g.tells → (found : Found) (since : ℕ) → BeginsAt g old since → Reads (g.size old) (g.story old).reads (Opened found)
+    → MayLeaveFound g old found since new
 
 -- An opening was all that a disk wrote and synced: a sync, and a turn with the states of the store that it read as.
 abbrev pub CostsOpening : {D : Type 0} → disk_trait.Ghosts D → D → D → Type 0

@@ -43,7 +43,7 @@ Did-none {D = D} g before outcome mine new still same =
 
 -- the turn is that of the step
 pub turn-plays : {D : Type 0} (g : Ghosts D) (mine later new : World D) (number : ℕ) (action : turn.Action) (asked : script.Action) (line shown : AnswerLine) (text : List ℕ)
-    (world : model.World) → WorldStands mine world → TakesTurn g mine later number action (model_line line) → new ≡ later → shown ≡ line → asked ≡ script.Transact action
+    (world : model.World) → WorldStands mine world → TakesTurn mine later number action (model_line line) → new ≡ later → shown ≡ line → asked ≡ script.Transact action
     → action_play world number (script.Transact action) ≡ Some (transact world number action) → text ≡ [] ++ answer_text (answer.Session number (model_line shown) None)
     → (x : Outcome) × (action_play world number asked ≡ Some x) × CameTo g world x text mine new
 turn-plays {D = D} g mine later new number action asked line shown text world is takes new_is shown_is asked_is built text_is = (
@@ -63,11 +63,10 @@ Keeps-same {D = D} g mine new same = subst (λ (v : Vault D). Keeps g mine.vault
 
 -- and nothing else has changed
 pub turn-stepped : {D T : Type 0} (g : Ghosts D) (mine later new : World D) (number : ℕ) (action : turn.Action) (line : answer.AnswerLine) (value : T)
-    → TakesTurn g mine later number action line → new ≡ later → Stepped g mine new (Ok value)
+    → TakesTurn mine later number action line → new ≡ later → Stepped g mine new (Ok value)
 turn-stepped {D = D} {T = T} g mine later new number action line value takes new_is =
     subst (λ (w : World D). Stepped {T = T} g mine w (Ok value)) (sym new_is) (record {
       sound = takes.sound;
-      vault = takes.sound.vault;
       begun = takes.begun;
       layout = ap (λ (v : Vault D). v.memory.layout) takes.vault;
       keeps = Keeps-same g mine later takes.vault;
@@ -79,12 +78,11 @@ turn-stepped {D = D} {T = T} g mine later new number action line value takes new
 
 -- nor has it where there was no memory for the answer
 pub turn-failed : {D T : Type 0} (g : Ghosts D) (mine later new : World D) (number : ℕ) (action : turn.Action) (line : answer.AnswerLine) (result : Result T StoreFault)
-    → TakesTurn g mine later number action line → new ≡ later → result ≡ Err store_fault.OutOfMemory → Stepped g mine new result
+    → TakesTurn mine later number action line → new ≡ later → result ≡ Err store_fault.OutOfMemory → Stepped g mine new result
 turn-failed {D = D} {T = T} g mine later new number action line result takes new_is result_is =
     subst (λ (r : Result T StoreFault). Stepped g mine new r) (sym result_is)
     (subst (λ (w : World D). Stepped {T = T} g mine w (Err store_fault.OutOfMemory)) (sym new_is) (record {
       sound = tt;
-      vault = takes.sound.vault;
       begun = λ n have. tt;
       layout = ap (λ (v : Vault D). v.memory.layout) takes.vault;
       keeps = Keeps-same g mine later takes.vault;
@@ -101,7 +99,6 @@ Stepped-err {T = T} {U = U} g mine later one other fault one_is other_is stepped
     let failed : Stepped {T = T} g mine later (Err fault) = subst (λ (r : Result T StoreFault). Stepped g mine later r) one_is stepped in
     subst (λ (r : Result U StoreFault). Stepped g mine later r) (sym other_is) (record {
       sound = tt;
-      vault = failed.vault;
       begun = λ n have. tt;
       layout = failed.layout;
       keeps = failed.keeps;

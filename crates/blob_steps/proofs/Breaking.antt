@@ -151,7 +151,7 @@ own-stored found own stored = let both : looked.Own ≡ looked.Stored = sym own 
 pub line-stored : (found : Looked) (line : AnswerLine) → found ≡ looked.Line line → found ≡ looked.Stored → ⊥
 line-stored found line is stored = let both : looked.Line line ≡ looked.Stored = sym is ∙ stored in absurd (cc both)
 
-module _ {D : Type 0} (g : Ghosts D) (mine new : World D) (number : ℕ) (key : List ℕ) (found : Looked) (sound : IsWorld g mine) (left : WasLooked g mine new)
+module _ {D : Type 0} (g : Ghosts D) (mine new : World D) (number : ℕ) (key : List ℕ) (found : Looked) (sound : IsWorld mine) (left : WasLooked mine new)
     (done : HasLooked mine.vault.memory mine.sessions.items new.sessions.items number key found) (world : model.World) (is : WorldKnown mine world) where
   -- where a get is broken, the session shows what the store has
   shows-broken : (one : Damage) → Breaks g mine world (script.Session number (script.Transact (turn.Get key))) one → found ≡ looked.Stored
@@ -212,7 +212,7 @@ module _ {D : Type 0} (g : Ghosts D) (mine new : World D) (number : ℕ) (key : 
 
 -- the world behind another turn
 pub follows-turn : {D : Type 0} (g : Ghosts D) (mine later new : World D) (number : ℕ) (action : turn.Action) {line : _} (world : model.World) → WorldKnown mine world
-    → TakesTurn g mine later number action line → new ≡ later → Follows g (transact world number action).world mine new
+    → TakesTurn mine later number action line → new ≡ later → Follows g (transact world number action).world mine new
 follows-turn {D = D} g mine later new number action world is takes new_is =
     subst (λ (w : World D). Follows g (transact world number action).world mine w) (sym new_is) (record {
       known = takes.knows world is;

@@ -1,5 +1,5 @@
 -- A checkpoint, over the program's world.
-use Rattle.std.proofs.Common.{◌≡◌, ℕ, ◌+◌, ◌%◌, ◌≤◌, IsTrue, List, length, take, [], inl, sym, ◌∙◌, ap, subst, arith}
+use Rattle.std.proofs.Common.{◌≡◌, ℕ, ◌+◌, ◌%◌, ◌≤◌, IsTrue, List, None, length, take, [], inl, sym, ◌∙◌, ap, subst, arith}
 use Rattle.std.specs.FinMap.{FinMap}
 use Rattle.disk_model.specs.Disks.{OnlyWrites}
 use Rattle.disk_model.specs.declared.disk.Disk.{Ghosts}
@@ -11,18 +11,19 @@ use Rattle.store_model.specs.Answer.{answer_text}
 use Rattle.store_model.specs.Cost.{Cost, with_turn}
 use Rattle.store_model.specs.Disk.{Image, page_bytes}
 use Rattle.store_model.specs.Holds.{HoldsAt}
-use Rattle.store_model.specs.Images.{LeavesOnly}
 use Rattle.store_model.specs.Key.{key_order}
 use Rattle.store_model.specs.Layout.{Layout, data_page}
 use Rattle.store_model.specs.Script as script
-use Rattle.store_model.specs.Standing.{AllHeld, AllStand, SameObjects}
-use Rattle.store_model.specs.Store.{Object, Placement, Store}
+use Rattle.store_model.specs.Standing.{AllStand, SameObjects}
+use Rattle.store_model.specs.Store.{Object, Placement}
 use Rattle.store_model.specs.Survival.{ReadsAs, Survives}
 use Rattle.store_model.specs.World as model
 use Rattle.store_model.specs.World.{checkpointed}
 use Rattle.store_model.proofs.ImageLaws.{leaves_more}
-use Rattle.vault.specs.Leads.{Costs, IsLeadPage, StoreStands}
-use Rattle.vault.specs.Vaults.{SameHeld}
+use Rattle.vault.specs.Crashes.{TurnLeaves}
+use Rattle.vault.specs.Leads.{Costs, IsLeadPage}
+use Rattle.vault.specs.Vaults.{IsVault, SameHeld}
+use Rattle.vault.proofs.Crashes.{Through-survives}
 use Rattle.vault.proofs.Offs.{turn-before, turn-page}
 use Rattle.vault.specs.declared.vault.Vault.{Vault}
 use Rattle.blob_steps.specs.Known.{AllKnown}
@@ -98,12 +99,11 @@ follows-turned g mine vault world half two is same wrote =
     }
 
 -- A checkpoint survives as the vault says it of its turn.
-pub survives-turned : {D : Type 0} (g : Ghosts D) (mine later : World D)
-    → (IsTrue g.tells → (store : Store) → StoreStands mine.vault.memory store → AllHeld (g.story mine.vault.disk).reads mine.vault.memory.layout store.objects
-    → LeavesOnly (λ image. ReadsAs (g.size mine.vault.disk) image mine.vault.memory.layout store.objects store.last) (g.story mine.vault.disk) (g.story later.vault.disk))
-    → StepSurvives g script.Checkpoint mine later
-survives-turned g mine later survives = λ told world is held.
+pub survives-turned : {D : Type 0} (g : Ghosts D) (mine later : World D) → IsVault g mine.vault.disk mine.vault.memory mine.vault.shut → mine.vault.shut ≡ None
+    → (IsTrue g.tells → TurnLeaves g mine.vault.memory mine.vault.disk later.vault.disk) → StepSurvives g script.Checkpoint mine later
+survives-turned g mine later rules unshut leaves = λ told world is held.
     let layout : Layout = mine.vault.memory.layout in
     leaves_more (λ image. ReadsAs (g.size mine.vault.disk) image layout world.store.objects world.store.last)
     (λ image. Survives (g.size mine.vault.disk) image layout world.store [] 0) (g.story mine.vault.disk) (g.story later.vault.disk) (λ image reading. inl reading)
-    (survives told world.store is.store held)
+    (Through-survives g mine.vault.disk later.vault.disk mine.vault.memory world.store told
+    (subst (λ shut. IsVault g mine.vault.disk mine.vault.memory shut) unshut rules) is.store held (leaves told))

@@ -35,7 +35,7 @@ use Rattle.txn.specs.declared.request.Request.{Request}
 use Rattle.vault.specs.Crashes.{LeadSurvives}
 use Rattle.vault.specs.Leads.{Costs, IsLeadPage, Led, MayHaveWritten, StoreStands, ledger_in}
 use Rattle.vault.specs.Pours.{AreWhole, made_by}
-use Rattle.vault.specs.Vaults.{IsUnmade, IsVault}
+use Rattle.vault.specs.Vaults.{IsUnmade}
 use Rattle.vault.specs.declared.memory.Memory.{Memory}
 use Rattle.vault.specs.declared.vault.Vault.{Vault}
 use Rattle.vault.proofs.Turnings.{turned-wrote}
@@ -174,19 +174,19 @@ few-requests queue apart below =
     )
 
 -- the session of each request is one of the sixteen
-pub session-below : {D : Type 0} (g : Ghosts D) (mine : World D) → IsWorld g mine → (i : ℕ) (request : Request) → slice_get mine.queue i ≡ Some request
+pub session-below : {D : Type 0} (mine : World D) → IsWorld mine → (i : ℕ) (request : Request) → slice_get mine.queue i ≡ Some request
     → request.session < 16
-session-below g mine sound i request there =
+session-below mine sound i request there =
     let waits = sound.wait i request there in
     omega (arith, slice_get_within mine.sessions.items request.session waits.0 waits.1, sound.sixteen)
 
-pub sessions-below : {D : Type 0} (g : Ghosts D) (mine : World D) (numbers : List ℕ) → IsWorld g mine → numbers ≡ sessions_of mine.queue
+pub sessions-below : {D : Type 0} (mine : World D) (numbers : List ℕ) → IsWorld mine → numbers ≡ sessions_of mine.queue
     → All (λ (number : ℕ). number < 16) numbers
-sessions-below g mine numbers sound is =
+sessions-below mine numbers sound is =
     subst (All (λ (number : ℕ). number < 16)) (sym is) (λ k d less.
     let number : ℕ = slice_index_or (sessions_of mine.queue) k d in
     let here = get-session mine.queue k number (slice_get-get_or (sessions_of mine.queue) k d less) in
-    omega (arith, session-below g mine sound k here.0 here.1, here.2))
+    omega (arith, session-below mine sound k here.0 here.1, here.2))
 
 -- members for the first requests of a queue, whatever they are judged by
 abbrev pub some_members : Ledger → ℕ → List Request → List Member
@@ -222,18 +222,17 @@ stands-so one stage begun number theirs stage_is begun_is same stands = record {
 }
 
 -- A group was led: the program's world before it, with the vault after it and without its requests, and behind its replies.
-pub record HasLed {D : Type 0} (g : Ghosts D) (mine middle new : World D) (members : List Member) (n : ℕ) : Type 0 where
-  pub sound : IsWorld g mine
+pub record HasLed {D : Type 0} (mine middle new : World D) (members : List Member) (n : ℕ) : Type 0 where
+  pub sound : IsWorld mine
   pub sessions : middle.sessions ≡ mine.sessions
   pub queue : middle.queue ≡ drop n mine.queue
   pub layout : middle.vault.memory.layout ≡ mine.vault.memory.layout
-  pub vault : IsVault g middle.vault.disk middle.vault.memory middle.vault.shut
   pub unshut : middle.vault.shut ≡ None
   pub are : AreOf mine.queue members
   pub count : n ≡ length members
   pub replied : Replying n (sessions_of mine.queue) middle new
 
-module _ {D : Type 0} (g : Ghosts D) (mine middle new : World D) (members : List Member) (n : ℕ) (done : HasLed g mine middle new members n) where
+module _ {D : Type 0} (mine middle new : World D) (members : List Member) (n : ℕ) (done : HasLed mine middle new members n) where
   queue-left : new.queue ≡ drop n mine.queue
   queue-left = done.replied.queue ∙ done.queue
 
@@ -288,10 +287,9 @@ module _ {D : Type 0} (g : Ghosts D) (mine middle new : World D) (members : List
       }
 
   -- and it is a world
-  pub led-sound : IsWorld g new
+  pub led-sound : IsWorld new
   led-sound = record {
     some = (freed done.sound.some.0 members, led-sessions done.sound.some.0 done.sound.some.1);
-    vault = subst (λ (v : Vault D). IsVault g v.disk v.memory v.shut) (sym done.replied.vault) done.vault;
     unshut = ap (λ (v : Vault D). v.shut) done.replied.vault ∙ done.unshut;
     sixteen = done.replied.sixteen;
     whole = subst AreWhole (sym queue-left) (whole-left mine.queue n done.sound.whole);
@@ -340,7 +338,7 @@ module _ {D : Type 0} (g : Ghosts D) (mine middle new : World D) (replies : List
       ∙ ap (led now) (group-stands mine.vault.memory mine.queue now is.store whole is.queue is.requests)
 
   -- one without a commit leaves the vault as it was
-  pub follows-led : (now : world.World) (n : ℕ) → WorldKnown mine now → HasLed g mine middle new group_members n → 0 < length mine.queue
+  pub follows-led : (now : world.World) (n : ℕ) → WorldKnown mine now → HasLed mine middle new group_members n → 0 < length mine.queue
       → (commits_of group_members ≡ [] → IsUnmade mine.vault.disk middle.vault.disk mine.vault.memory middle.vault.memory mine.vault.shut middle.vault.shut)
       → (lead mine.vault.memory.layout now).commits ≡ [] → Follows g (lead mine.vault.memory.layout now).world mine new
   follows-led now n is done some idle none =
@@ -353,7 +351,7 @@ module _ {D : Type 0} (g : Ghosts D) (mine middle new : World D) (replies : List
         last = kept.last ∙ is.store.last;
       } in
       subst (λ (o : Outcome). Follows g o.world mine new) (sym same) (record {
-        known = led-is g mine middle new group_members n done StoreKnown now is (subst (StoreKnown middle.vault.memory) (sym stays) known);
+        known = led-is mine middle new group_members n done StoreKnown now is (subst (StoreKnown middle.vault.memory) (sym stays) known);
         states = ap (λ (v : Vault D). v.memory.relation.states) done.replied.vault ∙ kept.states;
         pages = λ told at.
             ap (λ (v : Vault D). (g.story v.disk).reads (data_page mine.vault.memory.layout + at)) done.replied.vault
@@ -371,8 +369,8 @@ module _ {D : Type 0} (g : Ghosts D) (mine middle new : World D) (replies : List
     outcome-is : AreWhole mine.queue → 0 < length mine.queue → lead mine.vault.memory.layout now ≡ led now group_members
     outcome-is whole some = outcome-known now (WorldKnown-stands mine now is) whole some
 
-    pub stands-led : (n : ℕ) → HasLed g mine middle new group_members n → WorldStands new (led now group_members).world
-    stands-led n done = led-is g mine middle new group_members n done StoreStands now is (subst (StoreStands middle.vault.memory) made-now led_is.stands)
+    pub stands-led : (n : ℕ) → HasLed mine middle new group_members n → WorldStands new (led now group_members).world
+    stands-led n done = led-is mine middle new group_members n done StoreStands now is (subst (StoreStands middle.vault.memory) made-now led_is.stands)
 
     -- what it did, with the vault after it
     did-led : new.vault ≡ middle.vault → Did g now.store (led now group_members) mine new
@@ -388,7 +386,7 @@ module _ {D : Type 0} (g : Ghosts D) (mine middle new : World D) (replies : List
           (led_is.costs cost gate);
     }
 
-    pub came-led : (n : ℕ) (text : List ℕ) → HasLed g mine middle new group_members n → 0 < length mine.queue → text ≡ replies_text (sessions_of mine.queue) replies
+    pub came-led : (n : ℕ) (text : List ℕ) → HasLed mine middle new group_members n → 0 < length mine.queue → text ≡ replies_text (sessions_of mine.queue) replies
         → CameTo g now (lead mine.vault.memory.layout now) text mine new
     came-led n text done some text_is =
         subst (λ (outcome : Outcome). CameTo g now outcome text mine new) (sym (outcome-is done.sound.whole some)) (record {
@@ -398,7 +396,7 @@ module _ {D : Type 0} (g : Ghosts D) (mine middle new : World D) (replies : List
         })
 
 -- A lead survives as the vault says it, of the group that the program leads.
-pub survives-led : {D : Type 0} (g : Ghosts D) (mine later : World D) → IsWorld g mine → 0 < length mine.queue
+pub survives-led : {D : Type 0} (g : Ghosts D) (mine later : World D) → IsWorld mine → 0 < length mine.queue
     → (IsTrue g.tells → LeadSurvives g mine.vault.memory mine.queue mine.vault.disk later.vault.disk) → StepSurvives g script.Lead mine later
 survives-led g mine later sound some survives = λ told now is held.
     let layout : Layout = mine.vault.memory.layout in

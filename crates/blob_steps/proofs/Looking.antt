@@ -21,7 +21,6 @@ use Rattle.store_model.specs.Turn.{session_after}
 use Rattle.store_model.specs.World as model
 use Rattle.store_model.specs.World.{Outcome, transaction_of, with_session}
 use Rattle.txn.specs.Txns.{own_bytes}
-use Rattle.vault.specs.Vaults.{IsVault}
 use Rattle.vault.specs.declared.memory.Memory.{Memory}
 use Rattle.vault.specs.declared.vault.Vault.{Vault}
 use Rattle.blob_steps.specs.Faults.{DamageAt, IsDamageAmong}
@@ -42,18 +41,16 @@ look-leaves : (one : Look) (key : List ℕ) → LeavesQueue (look_action one key
 look-leaves look.Get key = λ stage queue number. refl
 look-leaves look.Stat key = λ stage queue number. refl
 
--- The vault has in memory what it had, and keeps its rules; and its disk was read at most.
-pub record WasLooked {D : Type 0} (g : Ghosts D) (mine new : World D) : Type 0 where
+-- The vault has in memory what it had, and is shut where it was.
+pub record WasLooked {D : Type 0} (mine new : World D) : Type 0 where
   pub memory : new.vault.memory ≡ mine.vault.memory
-  pub kept : IsVault g new.vault.disk new.vault.memory new.vault.shut
   pub shut : new.vault.shut ≡ mine.vault.shut
   pub queue : new.queue ≡ mine.queue
 
 -- so it is where the vault is as it was
-pub same-looked : {D : Type 0} (g : Ghosts D) (mine new : World D) → IsWorld g mine → new.vault ≡ mine.vault → new.queue ≡ mine.queue → WasLooked g mine new
-same-looked {D = D} g mine new sound same queue = record {
+pub same-looked : {D : Type 0} (mine new : World D) → new.vault ≡ mine.vault → new.queue ≡ mine.queue → WasLooked mine new
+same-looked {D = D} mine new same queue = record {
   memory = ap (λ (v : Vault D). v.memory) same;
-  kept = subst (λ (v : Vault D). IsVault g v.disk v.memory v.shut) (sym same) sound.vault;
   shut = ap (λ (v : Vault D). v.shut) same;
   queue = queue;
 }
@@ -63,18 +60,17 @@ pub came-as : {D : Type 0} (g : Ghosts D) (world : model.World) (outcome : Outco
     → CameTo g world outcome text mine new → CameTo g world outcome text mine later
 came-as {D = D} g world outcome text mine new later same came = subst (λ (w : World D). CameTo g world outcome text mine w) (sym same) came
 
-module _ {D : Type 0} (g : Ghosts D) (mine new : World D) (number : ℕ) (key : List ℕ) (found : Looked) (sound : IsWorld g mine) (left : WasLooked g mine new)
+module _ {D : Type 0} (g : Ghosts D) (mine new : World D) (number : ℕ) (key : List ℕ) (found : Looked) (sound : IsWorld mine) (left : WasLooked mine new)
     (done : HasLooked mine.vault.memory mine.sessions.items new.sessions.items number key found) where
   pub looks-in : (one : Look) (world : model.World) → WorldKnown mine world → LooksTo one world.store (world.sessions number) key number done.later found
   looks-in one world is = done.looks one (world.sessions number) world.store is.store (is.sessions number done.was done.set_is.there)
 
-  pub look-moves : (one : Look) → Moves g mine new number (look_action one key)
+  pub look-moves : (one : Look) → Moves mine new number (look_action one key)
   look-moves one =
-      Moves-alone g mine new number done.was done.later (look_action one key) sound
+      Moves-alone mine new number done.was done.later (look_action one key) sound
       (record {
         set_is = done.set_is;
         memory = left.memory;
-        kept = left.kept;
         unshut = left.shut ∙ sound.unshut;
         queue = left.queue;
         begun = omega (arith, done.begun);
@@ -89,7 +85,6 @@ module _ {D : Type 0} (g : Ghosts D) (mine new : World D) (number : ℕ) (key : 
       let moves = look-moves one in
       subst (λ (w : World D). Stepped {T = T} g mine w (Ok value)) (sym later_is) (record {
         sound = moves.sound;
-        vault = left.kept;
         begun = moves.begun;
         layout = ap (λ (m : Memory). m.layout) left.memory;
         keeps = keeps;

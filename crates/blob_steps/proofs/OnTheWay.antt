@@ -24,7 +24,7 @@ use Rattle.blob_steps.specs.Going.{BadLine, EndsReading, EndsStep, Going, GoingS
 use Rattle.blob_steps.specs.Nexts.{IsNeverBuilt, IsUnbuilt}
 use Rattle.blob_steps.specs.Lines.{LineTaken, NoLine}
 use Rattle.blob_steps.specs.Runs.{Ended, EndedSo, Grew, IsUndamaged, MayCut, OnPlayed, OnResting, PagesAre, EndsAs, Ran, RunSurvives, ShowsDamage}
-use Rattle.blob_steps.specs.Steps.{CameTo, Did, HaveBegun, IsWorld, StepSurvives, WorldStands, groups_in}
+use Rattle.blob_steps.specs.Steps.{CameTo, Did, HaveBegun, StepSurvives, WorldStands, groups_in}
 use Rattle.store_model.specs.Cost.{Cost, Spent, with_line, with_lines}
 use Rattle.store_model.specs.World as model
 use Rattle.store_model.specs.Group.{taken_blocks}
@@ -44,6 +44,7 @@ use Rattle.store_model.proofs.ImageLaws.{wider, wrote_none, wrote_then}
 use Rattle.store_model.proofs.SurvivalStoryLaws.{SurvivesAll-begin}
 use Rattle.recover.specs.Openings.{LeavesFrom}
 use Rattle.vault.specs.Leads.{Costs, IsLeadPage}
+use Rattle.vault.specs.Vaults.{IsVault}
 use Rattle.vault.specs.declared.vault.Vault.{Vault}
 use Rattle.blob_steps.proofs.Plays.{EndsOn-here, EndsOn-next, EndsOn-skipped, PlaysOn-all, PlaysOn-front, PlaysOn-next, PlaysOn-skipped, end-bad, end-over, end-unbuilt, ends-alike, playing-bad, playing-unbuilt, store_behind-push, taken_in-push, taken_rest, text_of-push, with_lines-push}
 use Rattle.blob_steps.proofs.Surviving.{IsUnderWay-next, IsUnderWay-none, RunSurvives-here, RunSurvives-step, behind-next, survives-next}
@@ -121,7 +122,8 @@ Costs-next g start before begun lines store outcome was mine later store_is so_f
 module _ {D : Type 0} (g : Ghosts D) (start : Store) (before begun : Cost) (since : ℕ) (mine later : World D) (number : ℕ) (first left rest old taken : Option (List ℕ)) (was : D)
     (step : Step) (text : List ℕ) (going : Going g start before begun since mine number first left old taken was) (takes : TakesLine number left rest (Asks step))
     (same : later.vault.memory.layout ≡ mine.vault.memory.layout) (outcome : Outcome) (played : step_play mine.vault.memory.layout going.world step ≡ Some outcome)
-    (came : CameTo g going.world outcome text mine later) (sound : IsWorld g later) (kept : Keeps g mine.vault.disk later.vault.disk)
+    (came : CameTo g going.world outcome text mine later) (unshut : later.vault.shut ≡ None) (rules : IsVault g later.vault.disk later.vault.memory later.vault.shut)
+    (kept : Keeps g mine.vault.disk later.vault.disk)
     (stepped : StepSurvives g step mine later) where
   -- the lines with that of the step
   abbrev lines_with : List PlayedLine
@@ -156,7 +158,7 @@ module _ {D : Type 0} (g : Ghosts D) (start : Store) (before begun : Cost) (sinc
       subst (λ (s : Store). AllHeld (g.story later.vault.disk).reads mine.vault.memory.layout s.objects) (store_behind-push start going.lines (played_line outcome))
       (AllStand-held start.last (g.story later.vault.disk).reads mine.vault.memory.layout (store_behind start lines_with).objects (pages-later told).objects) in
       subst (λ (l : Layout). RestsAs (g.size later.vault.disk) l outcome.world.store (g.story later.vault.disk)) same
-      (rests-at g later outcome.world.store told sound came.stands.store
+      (rests-at g later outcome.world.store told rules unshut came.stands.store
       (subst (λ (l : Layout). AllHeld (g.story later.vault.disk).reads l outcome.world.store.objects) (sym same) held))
 
   rests-later : IsTrue g.tells → RestsAs (g.size later.vault.disk) mine.vault.memory.layout (store_behind start lines_with) (g.story later.vault.disk)
@@ -257,8 +259,8 @@ module _ {D : Type 0} (g : Ghosts D) (start : Store) (before begun : Cost) (sinc
   Ended-printing (status.Damaged key link want got) more frugal faults_old faults_new cut ends = absurd ends
 
 -- a run that ends where it is, before or at the end of its script
-module _ {D : Type 0} (g : Ghosts D) (start : Store) (before begun : Cost) (since : ℕ) (mine : World D) (number : ℕ) (first left old taken : Option (List ℕ)) (was : D) (sound : IsWorld g mine)
-    (going : Going g start before begun since mine number first left old taken was) where
+module _ {D : Type 0} (g : Ghosts D) (start : Store) (before begun : Cost) (since : ℕ) (mine : World D) (number : ℕ) (first left old taken : Option (List ℕ)) (was : D) (unshut : mine.vault.shut ≡ None)
+    (rules : IsVault g mine.vault.disk mine.vault.memory mine.vault.shut) (going : Going g start before begun since mine number first left old taken was) where
   abbrev layout_now : Layout
   layout_now = mine.vault.memory.layout
 
@@ -275,7 +277,7 @@ module _ {D : Type 0} (g : Ghosts D) (start : Store) (before begun : Cost) (sinc
   rests-now : IsTrue g.tells → RestsAs (g.size mine.vault.disk) layout_now (store_behind start going.lines) (g.story mine.vault.disk)
   rests-now told =
       subst (λ (s : Store). RestsAs (g.size mine.vault.disk) layout_now s (g.story mine.vault.disk)) going.store_is
-      (rests-at g mine going.world.store told sound going.stands.store (held-now told))
+      (rests-at g mine going.world.store told rules unshut going.stands.store (held-now told))
 
   -- no step is under way
   crashes-now : RunSurvives g layout_now start first going.lines since mine.vault.disk
@@ -457,9 +459,9 @@ ended-status P (Ok x) how is holds = subst P (sym is) holds
 ended-status P (Err s) how is holds = subst P (sym is) holds
 
 -- a run that begins
-pub Going-first : {D : Type 0} (g : Ghosts D) (mine : World D) (start : Store) (cost : Cost) (since : ℕ) (first taken : Option (List ℕ)) → IsWorld g mine → StartsOn g start cost since mine
+pub Going-first : {D : Type 0} (g : Ghosts D) (mine : World D) (start : Store) (cost : Cost) (since : ℕ) (first taken : Option (List ℕ)) → IsVault g mine.vault.disk mine.vault.memory mine.vault.shut → StartsOn g start cost since mine
     → Going g start cost cost since mine 1 first first taken taken mine.vault.disk
-Going-first g mine start cost since first taken sound starts = record {
+Going-first g mine start cost since first taken rules starts = record {
   world = model.world_over start;
   stands = starts.stands;
   lines = [];
@@ -467,7 +469,7 @@ Going-first g mine start cost since first taken sound starts = record {
   grew = ([], Appends-nil taken);
   took = λ told. Appends-nil taken;
   pages = λ told. record {
-    objects = AllHeld-stand g mine start sound starts.stands.store (starts.held told);
+    objects = AllHeld-stand g mine start rules starts.stands.store (starts.held told);
     others = wrote_none (IsLeadPage mine.vault.memory.layout []) (g.story mine.vault.disk);
   };
   counts = record { gate = starts.gate; spent = λ told. record { writes = refl; syncs = refl } };

@@ -3,7 +3,7 @@ use Rattle.std.proofs.Common.{◌≡◌, ◌⊎◌, ℕ, ◌+◌, ◌<◌, ◌�
 use Rattle.std.specs.FinMap.{empty, get, get-empty}
 use Rattle.disk_model.specs.Disks.{OnlyWrites}
 use Rattle.disk_model.specs.declared.disk.Disk.{Ghosts}
-use Rattle.recover.specs.Openings.{BeginsAt, IsMetadata, LeavesFrom}
+use Rattle.recover.specs.Openings.{BeginsAt, IsMetadata, LeavesFound, LeavesFrom, MayLeaveFound}
 use Rattle.recover.specs.Turns.{IsTurnPage, found_by}
 use Rattle.blob_script.specs.declared.status.Status.{Status}
 use Rattle.blob_script.specs.declared.status.Status.TheVariants as status
@@ -22,6 +22,7 @@ use Rattle.store_model.proofs.SurvivalLaws.{found-one}
 use Rattle.store_model.specs.State.{State}
 use Rattle.store_model.specs.Store.{Object, Store, empty_store}
 use Rattle.store_model.specs.Survival.{BothTold, ReadsAs}
+use Rattle.vault.proofs.Crashes.{From-survives, Opening-survives}
 use Rattle.store_model.proofs.FurtherLaws.{TakesEach-layout}
 use Rattle.store_model.proofs.HalfRefusalLaws.{FindsHalf-one}
 use Rattle.store_model.proofs.ImageLaws.{wider, wrote_then}
@@ -153,9 +154,8 @@ pub record RanOpened {S K D : Type 0} (source : source_trait.Ghosts S) (sink : s
   pub stands : IsTrue g.tells → (layout : Layout) (store : Store) → ReadsAs (g.size disk_old) (g.story disk_old).reads layout store.objects store.last
       → IsOpenedAs g layout store vault.disk vault.memory
   pub wrote : OnlyWrites g (IsMetadata (g.size disk_old) (g.story disk_old).reads) disk_old vault.disk
-  pub survives : IsTrue g.tells → (layout : Layout) (store : Store) (since : ℕ) → BeginsAt g disk_old since
-      → ReadsAs (g.size disk_old) (g.story disk_old).reads layout store.objects store.last
-      → LeavesFrom g (λ image. ReadsAs (g.size disk_old) image layout store.objects store.last) since vault.disk
+  pub survives : IsTrue g.tells → (found : Found) (since : ℕ) → BeginsAt g disk_old since → Reads (g.size disk_old) (g.story disk_old).reads (Opened found)
+      → LeavesFound g disk_old found since vault.disk
   pub ended : (start : Store) (behind : Cost) (since : ℕ) → StoreStands vault.memory start → behind.gate ≡ vault.memory.log.gate
       → (IsTrue g.tells → AllHeld (g.story vault.disk).reads vault.memory.layout start.objects)
       → (IsTrue g.tells → LeavesFrom g (λ image. ReadsAs (g.size vault.disk) image vault.memory.layout start.objects start.last) since vault.disk)
@@ -190,7 +190,8 @@ DidSteps-opened source sink g cost source_old sink_old disk_old vault how source
       λ yes. subst (λ (l : Layout). AllHeld (g.story vault.disk).reads l start.objects) (sym at.layout_is) at.held in
       let leaves : IsTrue g.tells → LeavesFrom g (λ image. ReadsAs (g.size vault.disk) image vault.memory.layout start.objects start.last) since vault.disk =
       λ yes. subst (λ (l : Layout). LeavesFrom g (λ image. ReadsAs (g.size vault.disk) image l start.objects start.last) since vault.disk) (sym at.layout_is)
-      (leaves-sized g layout start since vault.disk (g.size disk_old) (sym ran.wrote.keeps.size) (ran.survives told layout start since begins reads)) in (
+      (leaves-sized g layout start since vault.disk (g.size disk_old) (sym ran.wrote.keeps.size)
+      (From-survives g disk_old vault.disk layout start since reads (ran.survives told reads.found since begins reads.reads))) in (
         ran.own,
         subst (λ (l : Layout). Ended g l start cost (with_opening start cost) since (sink.frugal sink_old) (source.left source_old) (sink.taken sink_old) (sink.taken sink_new) disk_old disk_new how) at.layout_is
             (Ended-behind g vault.memory.layout start cost (with_opening start cost) (with_opening start cost) since (sink.frugal sink_old) (source.left source_old) (sink.taken sink_old) (sink.taken sink_new) disk_old vault.disk disk_new how
@@ -226,10 +227,8 @@ pub DidSteps-unopened : {S K D : Type 0} (source : source_trait.Ghosts S) (sink 
     (fault : RecoverFault) → (IsTrue g.tells → IsRead (g.size disk_old) (g.story disk_old).reads fault)
     → ((why : StoreRefusal) → fault ≡ recover_fault.Refused why → OnlyReads g disk_old disk_new)
     → g.size disk_new ≡ g.size disk_old
-    → (IsTrue g.tells → (layout : Layout) (store : Store) (since : ℕ) → BeginsAt g disk_old since
-    → ReadsAs (g.size disk_old) (g.story disk_old).reads layout store.objects store.last
-    → LeavesFrom g (λ image. ReadsAs (g.size disk_old) image layout store.objects store.last) since disk_new
-    ⊎ (OnlyReads g disk_old disk_new × ((g.story disk_new).time ≤ since)))
+    → (IsTrue g.tells → (found : Found) (since : ℕ) → BeginsAt g disk_old since → Reads (g.size disk_old) (g.story disk_old).reads (Opened found)
+    → MayLeaveFound g disk_old found since disk_new)
     → DidSteps source sink g cost from to disk_old (opening_ending fault) from to disk_new
 DidSteps-unopened source sink g cost from to disk_old disk_new (recover_fault.Refused why) read untouched size survives = record {
   refused = λ other is.
@@ -248,7 +247,8 @@ DidSteps-unopened source sink g cost from to disk_old disk_new recover_fault.Fai
   ended = λ told layout start since reads begins. (
     tt,
     Ended-no_disk g layout start cost (with_opening start cost) since (sink.frugal to) (source.left from) (sink.taken to) disk_old disk_new
-        (crashes-unopened g layout start (source.left from) since disk_old disk_new size (survives told layout start since begins reads)),
+        (crashes-unopened g layout start (source.left from) since disk_old disk_new size
+        (Opening-survives g disk_old disk_new layout start since reads (survives told reads.found since begins reads.reads))),
   );
   broken = λ told found reads start known script left_is one comes. tt;
   so = λ no. EndedSo-no_disk (source.left from) (sink.taken to);
@@ -260,7 +260,8 @@ DidSteps-unopened source sink g cost from to disk_old disk_new recover_fault.Out
   ended = λ told layout start since reads begins. (
     tt,
     Ended-no_memory g layout start cost (with_opening start cost) since (sink.frugal to) (source.left from) (sink.taken to) disk_old disk_new
-        (crashes-unopened g layout start (source.left from) since disk_old disk_new size (survives told layout start since begins reads)),
+        (crashes-unopened g layout start (source.left from) since disk_old disk_new size
+        (Opening-survives g disk_old disk_new layout start since reads (survives told reads.found since begins reads.reads))),
   );
   broken = λ told found reads start known script left_is one comes. tt;
   so = λ no. EndedSo-no_memory (source.left from) (sink.taken to);

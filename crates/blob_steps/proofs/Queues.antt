@@ -16,10 +16,8 @@ use Rattle.txn.specs.declared.request.Request.{Request}
 use Rattle.blob_steps.specs.Known.{StoreKnown}
 use Rattle.blob_steps.specs.Sessions.{Asks, IsSet, SessionStands, StageStands}
 use Rattle.blob_steps.specs.Steps.{AreNew, AreSessions, IsWorld, RequestStands, TakesTurn, WorldIs}
-use Rattle.disk_model.specs.declared.disk.Disk.{Ghosts}
 use Rattle.vault.specs.Leads.{StoreStands}
 use Rattle.vault.specs.Pours.{AreWhole}
-use Rattle.vault.specs.Vaults.{IsVault}
 use Rattle.vault.specs.declared.memory.Memory.{Memory}
 use Rattle.vault.specs.declared.vault.Vault.{Vault}
 use Rattle.blob_steps.specs.declared.session.Session.{Session}
@@ -70,14 +68,13 @@ WorldIs-new Is mine store new queue stands = record {
   requests = λ i request is. absurd (none-there mine.queue i request queue is);
 }
 
-pub IsWorld-new : {D : Type 0} (g : Ghosts D) (mine : World D) → IsVault g mine.vault.disk mine.vault.memory mine.vault.shut → mine.vault.shut ≡ None
-    → length mine.sessions.items ≡ 16 → AreNew mine.sessions.items → mine.queue ≡ [] → IsWorld g mine
-IsWorld-new g mine vault unshut sixteen new queue = record {
+pub IsWorld-new : {D : Type 0} (mine : World D) → mine.vault.shut ≡ None
+    → length mine.sessions.items ≡ 16 → AreNew mine.sessions.items → mine.queue ≡ [] → IsWorld mine
+IsWorld-new mine unshut sixteen new queue = record {
   some = (
     λ number. turn.new_session,
     record { sessions = λ number one is. (new number one is).1; requests = λ i request is. absurd (none-there mine.queue i request queue is) },
   );
-  vault = vault;
   unshut = unshut;
   sixteen = sixteen;
   whole = subst AreWhole (sym queue) (λ k d less. absurd (omega (arith, less)));
@@ -106,7 +103,7 @@ open-waits old number theirs request stands opened waits =
     let both : turn.Open (transaction_of request) ≡ turn.Waiting waiting.0 = sym opened ∙ waiting.1 in
     absurd (cc both)
 
-module _ {D : Type 0} (g : Ghosts D) (mine new : World D) (number : ℕ) (old later : Session) (request : Request) (sound : IsWorld g mine)
+module _ {D : Type 0} (mine new : World D) (number : ℕ) (old later : Session) (request : Request) (sound : IsWorld mine)
     (done : IsQueued mine new number old later request) where
   -- what the session asks for
   asks-in : (sessions : ℕ → turn.Session) → AreSessions mine sessions → Asks (sessions number) number request later
@@ -176,7 +173,7 @@ module _ {D : Type 0} (g : Ghosts D) (mine new : World D) (number : ℕ) (old la
       (ap (λ (s : Session). s.stage) same ∙ waits.2)
 
   -- A session's commit was queued.
-  pub TakesTurn-queued : TakesTurn g mine new number turn.Commit answer.Queued
+  pub TakesTurn-queued : TakesTurn mine new number turn.Commit answer.Queued
   TakesTurn-queued =
       let first : Asks (sound.some.0 number) number request later = asks-in sound.some.0 sound.some.1 in
       record {
@@ -187,7 +184,6 @@ module _ {D : Type 0} (g : Ghosts D) (mine new : World D) (number : ℕ) (old la
         knows = queued-is StoreKnown;
         sound = record {
           some = (sessions-after empty_store sound.some.0, queued-sessions empty_store sound.some.0 sound.some.1);
-          vault = subst (λ (v : Vault D). IsVault g v.disk v.memory v.shut) (sym done.vault) sound.vault;
           unshut = ap (λ (v : Vault D). v.shut) done.vault ∙ sound.unshut;
           sixteen = sixteen-set mine.sessions.items new.sessions.items number old later done.set_is sound.sixteen;
           whole = subst AreWhole (sym done.queue) (All-append (λ (r : Request). NoAppends r.writes) mine.queue (request ∷ []) sound.whole

@@ -12,8 +12,7 @@ use Rattle.store_model.specs.Store.{Object, Store}
 use Rattle.store_model.specs.Survival.{ReadsAs, RestsAs}
 use Rattle.store_model.proofs.SurvivalHeldLaws.{ReadsAs-standing}
 use Rattle.vault.specs.Leads.{IsLeadPage, StoreStands}
-use Rattle.vault.specs.Vaults.{found_of}
-use Rattle.blob_steps.specs.Steps.{IsWorld}
+use Rattle.vault.specs.Vaults.{IsVault, found_of}
 use Rattle.blob_steps.specs.declared.world.World.{World}
 use Rattle.blob_steps.proofs.OwnedPages.{page-behind, page-front}
 
@@ -29,22 +28,23 @@ state-there (Some state) None one both is = absurd both
 state-there (Some state) (Some object) one both is = let same : object ≡ one = cc is in (state, refl, subst (StandsFor state) same both)
 
 -- objects that are held stand, where none has a number above the last one
-pub AllHeld-stand : {D : Type 0} (g : Ghosts D) (mine : World D) (store : Store) → IsWorld g mine → StoreStands mine.vault.memory store
+pub AllHeld-stand : {D : Type 0} (g : Ghosts D) (mine : World D) (store : Store) → IsVault g mine.vault.disk mine.vault.memory mine.vault.shut → StoreStands mine.vault.memory store
     → AllHeld (g.story mine.vault.disk).reads mine.vault.memory.layout store.objects
     → AllStand store.last (g.story mine.vault.disk).reads mine.vault.memory.layout store.objects
-AllHeld-stand g mine store sound stands held key object is = record {
+AllHeld-stand g mine store kept stands held key object is = record {
   held = held key object is;
   filled = λ above.
       let state = state-there (get mine.vault.memory.relation.states key) (get store.objects key) object (stands.objects key) is in
-      absurd (omega (arith, above, state.2.number, stands.last, sound.vault.held.half.born key state.0 state.1));
+      absurd (omega (arith, above, state.2.number, stands.last, kept.held.half.born key state.0 state.1));
 }
 
 -- The disk of a vault rests at the store that memory is at, where it holds its contents.
-pub rests-at : {D : Type 0} (g : Ghosts D) (mine : World D) (store : Store) → IsTrue g.tells → IsWorld g mine → StoreStands mine.vault.memory store
+pub rests-at : {D : Type 0} (g : Ghosts D) (mine : World D) (store : Store) → IsTrue g.tells → IsVault g mine.vault.disk mine.vault.memory mine.vault.shut → mine.vault.shut ≡ None
+    → StoreStands mine.vault.memory store
     → AllHeld (g.story mine.vault.disk).reads mine.vault.memory.layout store.objects
     → RestsAs (g.size mine.vault.disk) mine.vault.memory.layout store (g.story mine.vault.disk)
-rests-at g mine store told sound stands held =
-    let rest = sound.vault.rest told sound.unshut in
+rests-at g mine store told kept unshut stands held =
+    let rest = kept.rest told unshut in
     record {
       reads = subst (λ (last : ℕ). ReadsAs (g.size mine.vault.disk) (g.story mine.vault.disk).reads mine.vault.memory.layout store.objects last) stands.last
           (ReadsAs-standing (g.size mine.vault.disk) (g.story mine.vault.disk).reads (found_of mine.vault.memory) store.objects (rest.at.gives, rest.at.apart)

@@ -29,10 +29,8 @@ use Rattle.blob_steps.specs.declared.session.Session.{Session}
 use Rattle.blob_steps.specs.declared.session.Stage.{Stage}
 use Rattle.blob_steps.specs.declared.session.Stage.TheVariants.{Free, Open, Waiting}
 use Rattle.blob_steps.specs.declared.world.World.{World}
-use Rattle.disk_model.specs.declared.disk.Disk.{Ghosts}
 use Rattle.vault.specs.Leads.{StoreStands}
 use Rattle.vault.specs.Pours.{AreWhole}
-use Rattle.vault.specs.Vaults.{IsVault}
 use Rattle.vault.specs.declared.memory.Memory.{Memory}
 use Rattle.vault.specs.declared.vault.Vault.{Vault}
 
@@ -196,32 +194,30 @@ pub WorldKnown-stands : {D : Type 0} (mine : World D) (world : model.World) → 
 WorldKnown-stands mine world is = WorldKnown-from StoreStands mine world (λ store stands. StoreKnown-stands mine.vault.memory store stands) is
 
 -- A session of the program's world took its turn, and the world is where that leads.
-pub record Moves {D : Type 0} (g : Ghosts D) (mine new : World D) (number : ℕ) (action : turn.Action) : Type 0 where
+pub record Moves {D : Type 0} (mine new : World D) (number : ℕ) (action : turn.Action) : Type 0 where
   pub stands : (world : model.World) → WorldStands mine world
       → WorldStands new (turned world number action (turn.turn world.store (world.sessions number) action)).world
   pub knows : (world : model.World) → WorldKnown mine world
       → WorldKnown new (turned world number action (turn.turn world.store (world.sessions number) action)).world
-  pub sound : IsWorld g new
+  pub sound : IsWorld new
   pub begun : (n : ℕ) → HaveBegun n mine → HaveBegun (n + 1) new
 
 -- A session alone took its turn: what the vault has in memory and the queue are as they were.
-pub record Alone {D : Type 0} (g : Ghosts D) (mine new : World D) (number : ℕ) (was later : Session) : Type 0 where
+pub record Alone {D : Type 0} (mine new : World D) (number : ℕ) (was later : Session) : Type 0 where
   pub set_is : IsSet mine.sessions.items new.sessions.items number was later
   pub memory : new.vault.memory ≡ mine.vault.memory
-  pub kept : IsVault g new.vault.disk new.vault.memory new.vault.shut
   pub unshut : new.vault.shut ≡ None
   pub queue : new.queue ≡ mine.queue
   pub begun : later.begun ≤ was.begun + 1
   pub waits : was.stage ≡ Waiting → later.stage ≡ Waiting
 
 -- so is the whole vault
-pub Alone-same : {D : Type 0} (g : Ghosts D) (mine new : World D) (number : ℕ) (was later : Session) → IsWorld g mine → new.vault ≡ mine.vault
+pub Alone-same : {D : Type 0} (mine new : World D) (number : ℕ) (was later : Session) → IsWorld mine → new.vault ≡ mine.vault
     → IsSet mine.sessions.items new.sessions.items number was later → new.queue ≡ mine.queue → later.begun ≤ was.begun + 1
-    → (was.stage ≡ Waiting → later.stage ≡ Waiting) → Alone g mine new number was later
-Alone-same {D = D} g mine new number was later sound same set_is queue begun waits = record {
+    → (was.stage ≡ Waiting → later.stage ≡ Waiting) → Alone mine new number was later
+Alone-same {D = D} mine new number was later sound same set_is queue begun waits = record {
   set_is = set_is;
   memory = ap (λ (v : Vault D). v.memory) same;
-  kept = subst (λ (v : Vault D). IsVault g v.disk v.memory v.shut) (sym same) sound.vault;
   unshut = ap (λ (v : Vault D). v.shut) same ∙ sound.unshut;
   queue = queue;
   begun = begun;
@@ -232,8 +228,8 @@ Alone-same {D = D} g mine new number was later sound same set_is queue begun wai
 abbrev pub LeavesQueue : turn.Action → Type 0
 LeavesQueue action = (stage : turn.Stage) (queue : List ℕ) (number : ℕ) → queue_after action stage queue number ≡ queue
 
-module _ {D : Type 0} (g : Ghosts D) (mine new : World D) (number : ℕ) (was later : Session) (action : turn.Action) (sound : IsWorld g mine)
-    (alone : Alone g mine new number was later)
+module _ {D : Type 0} (mine new : World D) (number : ℕ) (was later : Session) (action : turn.Action) (sound : IsWorld mine)
+    (alone : Alone mine new number was later)
     (turns : (world : model.World) → WorldKnown mine world
     → SessionStands later number (session_after (world.sessions number) action (turn.turn world.store (world.sessions number) action)))
     (some : TurnsSomehow was number action later)
@@ -264,13 +260,12 @@ module _ {D : Type 0} (g : Ghosts D) (mine new : World D) (number : ℕ) (was la
         },
       )
 
-  pub Moves-alone : Moves g mine new number action
+  pub Moves-alone : Moves mine new number action
   Moves-alone = record {
     stands = alone-is StoreStands (λ store stands. StoreKnown-stands mine.vault.memory store stands);
     knows = alone-is StoreKnown (λ store known. known);
     sound = record {
       some = alone-sessions sound.some.0 sound.some.1;
-      vault = alone.kept;
       unshut = alone.unshut;
       sixteen = sixteen-set mine.sessions.items new.sessions.items number was later alone.set_is sound.sixteen;
       whole = subst AreWhole (sym alone.queue) sound.whole;
@@ -283,23 +278,23 @@ module _ {D : Type 0} (g : Ghosts D) (mine new : World D) (number : ℕ) (was la
   }
 
 -- The session was answered this line, whatever the world.
-pub TakesTurn-alone : {D : Type 0} (g : Ghosts D) (mine new : World D) (number : ℕ) (was later : Session) (action : turn.Action) (line : answer.AnswerLine) → IsWorld g mine
-    → new.vault ≡ mine.vault → Alone g mine new number was later
+pub TakesTurn-alone : {D : Type 0} (mine new : World D) (number : ℕ) (was later : Session) (action : turn.Action) (line : answer.AnswerLine) → IsWorld mine
+    → new.vault ≡ mine.vault → Alone mine new number was later
     → ((world : model.World) → WorldKnown mine world → TurnsTo world.store (world.sessions number) action number later line)
     → TurnsSomehow was number action later
     → ((world : model.World) → WorldKnown mine world → queue_after action (world.sessions number).stage world.queue number ≡ world.queue)
-    → TakesTurn g mine new number action line
-TakesTurn-alone g mine new number was later action line sound same alone turns some queued =
-    let moves : Moves g mine new number action = Moves-alone g mine new number was later action sound alone (λ world is. (turns world is).stands) some queued in
+    → TakesTurn mine new number action line
+TakesTurn-alone mine new number was later action line sound same alone turns some queued =
+    let moves : Moves mine new number action = Moves-alone mine new number was later action sound alone (λ world is. (turns world is).stands) some queued in
     record { line_is = λ world is. (turns world is).line_is; stands = moves.stands; knows = moves.knows; sound = moves.sound; begun = moves.begun; vault = same }
 
 -- A session took its turn over the program's store.
-pub TakesTurn-turned : {D : Type 0} (g : Ghosts D) (mine new : World D) (number : ℕ) (action : turn.Action) (line : answer.AnswerLine) → IsWorld g mine → LeavesQueue action
+pub TakesTurn-turned : {D : Type 0} (mine new : World D) (number : ℕ) (action : turn.Action) (line : answer.AnswerLine) → IsWorld mine → LeavesQueue action
     → new.vault ≡ mine.vault → new.queue ≡ mine.queue
-    → HasTurned mine.vault.memory mine.sessions.items new.sessions.items number action line → TakesTurn g mine new number action line
-TakesTurn-turned g mine new number action line sound leaves same queue_is done =
-    TakesTurn-alone g mine new number done.was done.later action line sound same
-    (Alone-same g mine new number done.was done.later sound same done.set_is queue_is (omega (arith, done.begun)) done.waits)
+    → HasTurned mine.vault.memory mine.sessions.items new.sessions.items number action line → TakesTurn mine new number action line
+TakesTurn-turned mine new number action line sound leaves same queue_is done =
+    TakesTurn-alone mine new number done.was done.later action line sound same
+    (Alone-same mine new number done.was done.later sound same done.set_is queue_is (omega (arith, done.begun)) done.waits)
     (λ world is. done.turns (world.sessions number) world.store is.store (is.sessions number done.was done.set_is.there))
     done.some
     (λ world is. leaves (world.sessions number).stage world.queue number)

@@ -34,7 +34,6 @@ use Rattle.txn.specs.Requests.{transaction_of}
 use Rattle.txn.specs.declared.request.Request.{Request}
 use Rattle.vault.specs.Leads.{Costs, IsLeadPage, StoreStands}
 use Rattle.vault.specs.Pours.{AreWhole}
-use Rattle.vault.specs.Vaults.{IsVault}
 use Rattle.vault.specs.declared.memory.Memory.{Memory}
 
 -- a request in the queue is that of its session's transaction
@@ -72,11 +71,10 @@ pub record AreSessions {D : Type 0} (mine : World D) (theirs : ℕ → turn.Sess
   pub sessions : (number : ℕ) (one : Session) → slice_get mine.sessions.items number ≡ Some one → SessionStands one number (theirs number)
   pub requests : (i : ℕ) (request : Request) → slice_get mine.queue i ≡ Some request → RequestStands request (theirs request.session)
 
--- What is true of each world: its sessions are at those of the definitions, its vault keeps its rules and isn't shut, there are sixteen
--- sessions, and each request is that of another one, which waits.
-pub record IsWorld {D : Type 0} (g : Ghosts D) (mine : World D) : Type 0 where
+-- What is true of each world that goes on: its sessions are at those of the definitions, its vault isn't shut, there are sixteen sessions,
+-- and each request is that of another one, which waits.
+pub record IsWorld {D : Type 0} (mine : World D) : Type 0 where
   pub some : (sessions : ℕ → turn.Session) × AreSessions mine sessions
-  pub vault : IsVault g mine.vault.disk mine.vault.memory mine.vault.shut
   pub unshut : mine.vault.shut ≡ None
   pub sixteen : length mine.sessions.items ≡ 16
   pub whole : AreWhole mine.queue
@@ -92,13 +90,13 @@ abbrev pub HaveBegun : {D : Type 0} → ℕ → World D → Type 0
 HaveBegun n mine = (number : ℕ) (one : Session) → slice_get mine.sessions.items number ≡ Some one → one.begun ≤ n
 
 -- A session was answered this line to an action of its transaction, and the program's world is where that leads.
-pub record TakesTurn {D : Type 0} (g : Ghosts D) (mine new : World D) (number : ℕ) (action : turn.Action) (line : answer.AnswerLine) : Type 0 where
+pub record TakesTurn {D : Type 0} (mine new : World D) (number : ℕ) (action : turn.Action) (line : answer.AnswerLine) : Type 0 where
   pub line_is : (world : model.World) → WorldKnown mine world → line ≡ (turn.turn world.store (world.sessions number) action).line
   pub stands : (world : model.World) → WorldStands mine world
       → WorldStands new (turned world number action (turn.turn world.store (world.sessions number) action)).world
   pub knows : (world : model.World) → WorldKnown mine world
       → WorldKnown new (turned world number action (turn.turn world.store (world.sessions number) action)).world
-  pub sound : IsWorld g new
+  pub sound : IsWorld new
   pub begun : (n : ℕ) → HaveBegun n mine → HaveBegun (n + 1) new
   pub vault : new.vault ≡ mine.vault
 
@@ -145,8 +143,7 @@ DoesFollow g world step mine new played.NotBuilt = step_play mine.vault.memory.l
 -- more; without, a fault has its cause, damage is that of the key's state, and so of an object, and where the contents are held there
 -- is none.
 pub record Stepped {D T : Type 0} (g : Ghosts D) (mine later : World D) (result : Result T StoreFault) : Type 0 where
-  pub sound : OnOk result (IsWorld g later)
-  pub vault : IsVault g later.vault.disk later.vault.memory later.vault.shut
+  pub sound : OnOk result (IsWorld later)
   pub begun : (n : ℕ) → HaveBegun n mine → OnOk result (HaveBegun (n + 1) later)
   pub layout : later.vault.memory.layout ≡ mine.vault.memory.layout
   pub keeps : Keeps g mine.vault.disk later.vault.disk

@@ -26,7 +26,6 @@ ghost use Rattle.blob_steps.specs.Going.{EndsReading, EndsStep, Going, GoingSo, 
 ghost use Rattle.blob_steps.specs.Nexts.{HasSession, IsAlways, IsLine, IsNeverBuilt, IsNext, IsUnbuilt, TellsLine, next_line};
 ghost use Rattle.recover.specs.Openings.{LeavesFrom};
 ghost use Rattle.vault.specs.Leads.{StoreStands};
-ghost use Rattle.vault.specs.Vaults.{IsVault};
 
 use crate::fault::StoreFault;
 use crate::line::{Found, LineFault, LineReader};
@@ -98,7 +97,7 @@ impl<D: Disk> Run<D> {
 
     // Does the step that the line of this number asks for, and makes its answer the text.
     fn do_step(&mut self, alloc: Global, number: u64, step: Step) -> Result<(), Status>
-        requires sound { IsWorld D.Disk self.old.world }
+        requires sound { IsWorld self.old.world }
         requires begun { HaveBegun (2 ^ 61) self.old.world }
         requires session { IsSession step }
         ensures step { (world : ModelWorld) → WorldStands self.old.world world
@@ -117,8 +116,7 @@ impl<D: Disk> Run<D> {
         ensures whole { IsTrue D.tells → (world : ModelWorld) → WorldStands self.old.world world
             → AllHeld (D.story self.old.world.vault.disk).reads self.old.world.vault.memory.layout world.store.objects
             → IfErr result IsUndamaged }
-        ensures sound { OnOk result (IsWorld D.Disk self.new.world) }
-        ensures vault { IsVault D.Disk self.new.world.vault.disk self.new.world.vault.memory self.new.world.vault.shut }
+        ensures sound { OnOk result (IsWorld self.new.world) }
         ensures begun { (n : ℕ) → HaveBegun n self.old.world → OnOk result (HaveBegun (n + 1) self.new.world) }
         ensures reader { self.new.reader ≡ self.old.reader }
         ensures layout { self.new.world.vault.memory.layout ≡ self.old.world.vault.memory.layout }
@@ -142,7 +140,7 @@ impl<D: Disk> Run<D> {
         source: &mut S,
         sink: &mut K,
     ) -> Result<bool, Status>
-        requires sound { IsWorld D.Disk self.old.world }
+        requires sound { IsWorld self.old.world }
         requires begun { HaveBegun (2 ^ 61) self.old.world }
         ensures going { (start : ModelStore) (before begun : Cost) (since : ℕ) (first old : Option (List ℕ)) (was : _)
             → Going D.Disk start before begun since self.old.world number first (prepend_known self.old.reader (S.left source.old)) old
@@ -169,8 +167,7 @@ impl<D: Disk> Run<D> {
             (ComingTo D.Disk layout image states one (number + 1) (prepend_known self.new.reader (S.left source.new)) self.new.world) ⊥)
             (EndsAtBreak one) }
         ensures few { result ≡ Ok true → number ≤ MAX_LINES }
-        ensures sound { OnOk result (IsWorld D.Disk self.new.world) }
-        ensures vault { IsVault D.Disk self.new.world.vault.disk self.new.world.vault.memory self.new.world.vault.shut }
+        ensures sound { OnOk result (IsWorld self.new.world) }
         ensures begun { (n : ℕ) → HaveBegun n self.old.world → OnOk result (HaveBegun (n + 1) self.new.world) }
         ensures layout { self.new.world.vault.memory.layout ≡ self.old.world.vault.memory.layout }
         ensures own { IfErr result IsRunning }
@@ -181,9 +178,11 @@ impl<D: Disk> Run<D> {
         ensures keeps { KeepsEnds S.Source K.Sink D.Disk source.old sink.old self.old.world.vault.disk
             source.new sink.new self.new.world.vault.disk }
     {
+        self.world.vault.rules();
         match self.next(alloc, number, source)? {
             Next::Step { step } => {
                 self.do_step(alloc, number, step)?;
+                self.world.vault.rules();
                 print(sink, self.text.as_slice())?;
                 Ok(true)
             }
@@ -199,7 +198,7 @@ impl<D: Disk> Run<D> {
         source: &mut S,
         sink: &mut K,
     ) -> Result<(), Status>
-        requires sound { IsWorld D.Disk self.old.world }
+        requires sound { IsWorld self.old.world }
         requires begun { HaveBegun 0 self.old.world }
         requires none { self.old.reader ≡ [] }
         ensures ended { (start : ModelStore) (cost : Cost) (since : ℕ) → StartsOn D.Disk start cost since self.old.world
@@ -214,7 +213,6 @@ impl<D: Disk> Run<D> {
         ensures breaks { IsTrue D.tells → (layout : Layout) (image : Image) (states : FinMap key_order State) (one : Damage)
             → ComingTo D.Disk layout image states one 1 (S.left source.old) self.old.world
             → MatchResult result (λ _. ⊥) (EndsAtBreak one) }
-        ensures vault { IsVault D.Disk self.new.world.vault.disk self.new.world.vault.memory self.new.world.vault.shut }
         ensures own { IfErr result IsRunning }
         ensures among { IfErr result IsDamageOfState }
         ensures raised { IfErr result (λ status. IsRaised status
@@ -223,6 +221,7 @@ impl<D: Disk> Run<D> {
         ensures keeps { KeepsEnds S.Source K.Sink D.Disk source.old sink.old self.old.world.vault.disk
             source.new sink.new self.new.world.vault.disk }
     {
+        self.world.vault.rules();
         for number in 1..MAX_LINES + 2 {
             if !self.answer_line(alloc, number, source, sink)? {
                 return Ok(());
@@ -305,7 +304,6 @@ fn run_script<S: Source, K: Sink, D: Disk>(
     source: &mut S,
     sink: &mut K,
 ) -> (Status, D)
-    requires vault { IsVault D.Disk vault.disk vault.memory vault.shut }
     requires open { vault.shut ≡ None }
     ensures ended { (start : ModelStore) (cost : Cost) (since : ℕ) → StoreStands vault.memory start → cost.gate ≡ vault.memory.log.gate
         → (IsTrue D.tells → AllHeld (D.story vault.disk).reads vault.memory.layout start.objects)

@@ -16,7 +16,6 @@ ghost use Rattle.store_model.specs.Standing.{AllHeld, SameObjects};
 ghost use Rattle.store_model.specs.State.{State};
 ghost use Rattle.store_model.specs.Store.{Object};
 ghost use Rattle.store_model.specs.Verify.{LeadsTo, Verifies};
-ghost use Rattle.vault.specs.Vaults.{IsVault};
 ghost use Rattle.vault.specs.declared.fault.GatherFault.TheVariants.{Stale};
 
 use crate::fault::StoreFault;
@@ -52,7 +51,6 @@ pub(crate) fn show<D: Disk>(
     look: Look,
     key: &Key,
 ) -> Result<AnswerLine, StoreFault>
-    requires vault { IsVault D.Disk vault.old.disk vault.old.memory vault.old.shut }
     requires open { vault.old.shut ≡ None }
     // Whatever the disk tells, what is shown was verified: it leads over the state's links to its digest.
     ensures shown { IfOk result (λ line. ShownOf look (map.get vault.old.memory.relation.states key.now) (model_line line)) }
@@ -73,7 +71,6 @@ pub(crate) fn show<D: Disk>(
     ensures whole { IsTrue D.tells → (objects : map.FinMap key_order Object)
         → SameObjects vault.old.memory.relation.states objects
         → AllHeld (D.story vault.old.disk).reads vault.old.memory.layout objects → IfErr result IsUndamagedFault }
-    ensures keeps { IsVault D.Disk vault.new.disk vault.new.memory vault.new.shut }
     ensures memory { vault.new.memory ≡ vault.old.memory }
     ensures shut { vault.new.shut ≡ vault.old.shut }
     ensures only_reads { OnlyReads D.Disk vault.old.disk vault.new.disk }
@@ -103,7 +100,6 @@ fn read_value<D: Disk>(
     size: u64,
     born: u64,
 ) -> Result<AnswerLine, StoreFault>
-    requires vault { IsVault D.Disk vault.old.disk vault.old.memory vault.old.shut }
     requires open { vault.old.shut ≡ None }
     requires there { (state : State) × (map.get vault.old.memory.relation.states key.now ≡ Some state)
         × (state.size ≡ size) × (state.born ≡ born) }
@@ -118,13 +114,13 @@ fn read_value<D: Disk>(
         → OnOk result (Verifies (D.story vault.old.disk).reads (data_page vault.old.memory.layout) state) }
     ensures fails { IsTrue D.tells → (state : State) → map.get vault.old.memory.relation.states key.now ≡ Some state
         → IfErr result (FailsOn (D.story vault.old.disk).reads (data_page vault.old.memory.layout) state) }
-    ensures keeps { IsVault D.Disk vault.new.disk vault.new.memory vault.new.shut }
     ensures memory { vault.new.memory ≡ vault.old.memory }
     ensures shut { vault.new.shut ≡ vault.old.shut }
     ensures only_reads { OnlyReads D.Disk vault.old.disk vault.new.disk }
     ensures reads { IsTrue D.tells → Reads (D.calls vault.old.disk) (D.calls vault.new.disk) }
     ensures raised { IfErr result (IsRaisedFault (D.faults vault.old.disk) (D.faults vault.new.disk)) }
 {
+    vault.rules();
     let mut content = vec![in alloc; 0; size as usize]?;
     if let Err(fault) = vault.gather(key, born, 0, &mut content) {
         return Err(gather_fault(fault));

@@ -24,7 +24,6 @@ ghost use Rattle.blob_steps.specs.Nexts.{IsAlways};
 ghost use Rattle.blob_steps.specs.Sessions.{HasLooked, HasTurned, IsPut, look_action};
 ghost use Rattle.blob_steps.specs.Steps.{AreNew, CameTo, DoesFollow, DoesPlay, Follows, HaveBegun, IsWorld, LeavesFree, Replying, StepSurvives, Stepped, TakesTurn, WorldKnown, WorldStands, replies_text};
 ghost use Rattle.vault.specs.Leads.{StoreStands};
-ghost use Rattle.vault.specs.Vaults.{IsVault};
 
 use crate::fault::StoreFault;
 use crate::look::Look;
@@ -150,11 +149,10 @@ pub(crate) fn new_sessions(alloc: Global) -> Result<Vec<Session>, OutOfMemory>
 impl<D: Disk> World<D> {
     /// A vault that isn't shut, and sessions that have begun nothing.
     pub(crate) fn over(alloc: Global, vault: Vault<D>, sessions: Vec<Session>) -> World<D>
-        requires vault { IsVault D.Disk vault.disk vault.memory vault.shut }
         requires open { vault.shut ≡ None }
         requires count { length sessions.items ≡ 16 }
         requires new { AreNew sessions.items }
-        ensures sound { IsWorld D.Disk result }
+        ensures sound { IsWorld result }
         ensures vault { result.vault ≡ vault }
         ensures begun { HaveBegun 0 result }
         ensures stands { (store : ModelStore) → StoreStands vault.memory store → WorldStands result (world_over store) }
@@ -174,7 +172,7 @@ impl<D: Disk> World<D> {
         step: Step,
         text: &mut Bytes,
     ) -> Result<Played, StoreFault>
-        requires sound { IsWorld D.Disk self.old }
+        requires sound { IsWorld self.old }
         requires begun { HaveBegun (2 ^ 61) self.old }
         requires session { IsSession step }
         requires none { text.old ≡ [] }
@@ -209,7 +207,7 @@ impl<D: Disk> World<D> {
         action: Action,
         text: &mut Bytes,
     ) -> Result<Played, StoreFault>
-        requires sound { IsWorld D.Disk self.old }
+        requires sound { IsWorld self.old }
         requires begun { HaveBegun (2 ^ 61) self.old }
         requires session { session < 16 }
         requires none { text.old ≡ [] }
@@ -252,10 +250,10 @@ impl<D: Disk> World<D> {
 
     // A begin of a session.
     fn begin(&mut self, alloc: Global, session: u8) -> AnswerLine
-        requires sound { IsWorld D.Disk self.old }
+        requires sound { IsWorld self.old }
         requires begun { HaveBegun (2 ^ 61) self.old }
         requires session { session < 16 }
-        ensures { TakesTurn D.Disk self.old self.new session turn.Begin (model_line result) }
+        ensures { TakesTurn self.old self.new session turn.Begin (model_line result) }
     {
         let front = self.vault.front();
         self.sessions[session as usize].begin(alloc, session, front)
@@ -263,18 +261,18 @@ impl<D: Disk> World<D> {
 
     // An abort of a session.
     fn abort(&mut self, session: u8) -> AnswerLine
-        requires sound { IsWorld D.Disk self.old }
+        requires sound { IsWorld self.old }
         requires session { session < 16 }
-        ensures { TakesTurn D.Disk self.old self.new session turn.Abort (model_line result) }
+        ensures { TakesTurn self.old self.new session turn.Abort (model_line result) }
     {
         self.sessions[session as usize].abort()
     }
 
     // A commit of a session, whose request is then the last in the queue.
     fn commit(&mut self, alloc: Global, session: u8) -> Result<AnswerLine, OutOfMemory>
-        requires sound { IsWorld D.Disk self.old }
+        requires sound { IsWorld self.old }
         requires session { session < 16 }
-        ensures turn { IfOk result (λ line. TakesTurn D.Disk self.old self.new session turn.Commit (model_line line)) }
+        ensures turn { IfOk result (λ line. TakesTurn self.old self.new session turn.Commit (model_line line)) }
         ensures vault { self.new.vault ≡ self.old.vault }
     {
         match self.sessions[session as usize].commit() {
@@ -294,9 +292,9 @@ impl<D: Disk> World<D> {
         key: &Key,
         content: &Content,
     ) -> Result<AnswerLine, OutOfMemory>
-        requires sound { IsWorld D.Disk self.old }
+        requires sound { IsWorld self.old }
         requires session { session < 16 }
-        ensures turn { IfOk result (λ line. TakesTurn D.Disk self.old self.new session (turn.Put key.now (content_bytes content.now)) (model_line line)) }
+        ensures turn { IfOk result (λ line. TakesTurn self.old self.new session (turn.Put key.now (content_bytes content.now)) (model_line line)) }
         ensures vault { self.new.vault ≡ self.old.vault }
     {
         self.sessions[session as usize].put(alloc, key, content)
@@ -304,9 +302,9 @@ impl<D: Disk> World<D> {
 
     // A delete of a session.
     fn del(&mut self, session: u8, key: &Key) -> Result<AnswerLine, OutOfMemory>
-        requires sound { IsWorld D.Disk self.old }
+        requires sound { IsWorld self.old }
         requires session { session < 16 }
-        ensures turn { IfOk result (λ line. TakesTurn D.Disk self.old self.new session (turn.Delete key.now) (model_line line)) }
+        ensures turn { IfOk result (λ line. TakesTurn self.old self.new session (turn.Delete key.now) (model_line line)) }
         ensures vault { self.new.vault ≡ self.old.vault }
     {
         delete(&self.vault, &mut self.sessions, session, key)
@@ -321,7 +319,7 @@ impl<D: Disk> World<D> {
         key: &Key,
         text: &mut Bytes,
     ) -> Result<(), StoreFault>
-        requires sound { IsWorld D.Disk self.old }
+        requires sound { IsWorld self.old }
         requires session { session < 16 }
         requires none { text.old ≡ [] }
         ensures came { (world : ModelWorld) → WorldStands self.old world
@@ -381,7 +379,7 @@ impl<D: Disk> World<D> {
 
     // A checkpoint, whose answer is added to the text.
     fn checkpoint(&mut self, alloc: Global, text: &mut Bytes) -> Result<(), StoreFault>
-        requires sound { IsWorld D.Disk self.old }
+        requires sound { IsWorld self.old }
         requires none { text.old ≡ [] }
         ensures came { (world : ModelWorld) → WorldStands self.old world
             → OnOk result (CameTo D.Disk world (checkpointed world) text.new self.old self.new) }
@@ -390,6 +388,7 @@ impl<D: Disk> World<D> {
         ensures stepped { Stepped D.Disk self.old self.new result }
         ensures survives { StepSurvives D.Disk script.Checkpoint self.old self.new }
     {
+        self.vault.rules();
         self.vault.turn()?;
         Answer::Checkpointed.print(alloc, text)?;
         Ok(())
@@ -397,7 +396,7 @@ impl<D: Disk> World<D> {
 
     // A lead, whose answers are added to the text.
     fn lead(&mut self, alloc: Global, text: &mut Bytes) -> Result<(), StoreFault>
-        requires sound { IsWorld D.Disk self.old }
+        requires sound { IsWorld self.old }
         requires none { text.old ≡ [] }
         ensures came { (world : ModelWorld) → WorldStands self.old world
             → OnOk result (CameTo D.Disk world (lead self.old.vault.memory.layout world) text.new self.old self.new) }

@@ -1,6 +1,8 @@
 -- What is found on a disk that is opened.
-use Rattle.std.specs.Prelude.{ℕ, ◌≡◌, ◌⊎◌, ◌+◌, ◌≤◌, ◌<◌}
+use Rattle.std.specs.Prelude.{ℕ, ◌≡◌, ◌⊎◌, ◌+◌, ◌-◌, ◌≤◌, ◌<◌}
+use Rattle.disk_model.specs.Disks.{OnlyReads}
 use Rattle.disk_model.specs.declared.disk.Disk.{Ghosts}
+use Rattle.recover.specs.Turns.{ReadsThrough}
 use Rattle.recover.specs.declared.opening.Found.{Found}
 use Rattle.store_model.specs.Disk.{Calls, Image}
 use Rattle.store_model.specs.Half.{IsHalf, picked}
@@ -42,3 +44,13 @@ BeginsAt g old since = (since ≡ time_of (g.calls old) + 1) ⊎ (Settled (g.sto
 pub record LeavesFrom {D : Type 0} (g : Ghosts D) (P : Image → Type 0) (since : ℕ) (new : D) : Type 0 where
   pub past : since ≤ (g.story new).time
   pub each : (image : Image) → (g.story new).left since image → P image
+
+-- Whatever a crash left since then reads as this store, its contents whole or not, and no page has changed but those of a turn to the half
+-- that the disk hadn't picked.
+abbrev pub LeavesFound : {D : Type 0} → Ghosts D → D → reading.Found → ℕ → D → Type 0
+LeavesFound g old found since new =
+    LeavesFrom g (ReadsThrough (g.size old) found (1 - picked ((g.story old).reads 0)) (g.story old).reads) since new
+
+-- or the first call, a sync, didn't return well, and nothing was written
+abbrev pub MayLeaveFound : {D : Type 0} → Ghosts D → D → reading.Found → ℕ → D → Type 0
+MayLeaveFound g old found since new = LeavesFound g old found since new ⊎ (OnlyReads g old new × ((g.story new).time ≤ since))

@@ -1,17 +1,16 @@
 // The opening of a disk.
 
-ghost use Rattle.std.specs.Prelude.{◌≡◌, ℕ, ◌-◌, ◌<◌, ◌≤◌, ◌⊎◌, [], Err, IfErr, IfOk, IsTrue, MatchResult, OnOk};
+ghost use Rattle.std.specs.Prelude.{◌≡◌, ℕ, ◌<◌, ◌≤◌, [], Err, IfErr, IfOk, IsTrue, MatchResult, OnOk};
 ghost use Rattle.blob_base.specs.declared.faults.StoreRefusal.{StoreRefusal as Why};
 ghost use Rattle.disk_model.specs.Disks.{OnlyReads, OnlyWrites};
 ghost use Rattle.recover.specs.Faults.{CameFrom, IsOfHalf, IsOfSpace, IsRead};
 ghost use Rattle.recover.specs.Frames.{IsSound};
-ghost use Rattle.recover.specs.Openings.{BeginsAt, IsFound, IsMetadata, LeavesFrom, TookOpening, found_of};
-ghost use Rattle.recover.specs.Turns.{IsTurned, ReadsThrough};
+ghost use Rattle.recover.specs.Openings.{BeginsAt, IsFound, IsMetadata, LeavesFound, MayLeaveFound, TookOpening, found_of};
+ghost use Rattle.recover.specs.Turns.{IsTurned};
 ghost use Rattle.recover.specs.declared.fault.RecoverFault.TheVariants.{Refused};
 ghost use Rattle.relation.specs.Parts.{encoded_by};
 ghost use Rattle.store_model.specs.Cost as cost;
 ghost use Rattle.store_model.specs.Drops.{Drops};
-ghost use Rattle.store_model.specs.Half.{picked};
 ghost use Rattle.store_model.specs.HalfRefusals.{FindsHalf};
 ghost use Rattle.store_model.specs.Layout.{total_pages};
 ghost use Rattle.store_model.specs.Reading.{Found as StoreFound, Opened, Reads, blocks_of_states};
@@ -112,11 +111,7 @@ pub fn recover<D: Disk>(alloc: Global, disk: &mut D) -> Result<Found, RecoverFau
     ensures survives { IsTrue D.tells → (found : StoreFound) (since : ℕ) → BeginsAt D.Disk disk.old since
         → Reads (D.size disk.old) (D.story disk.old).reads (Opened found)
         → MatchResult result
-        (λ _. LeavesFrom D.Disk (ReadsThrough (D.size disk.old) found (1 - picked ((D.story disk.old).reads 0)) (D.story disk.old).reads)
-        since disk.new)
-        (λ _. LeavesFrom D.Disk (ReadsThrough (D.size disk.old) found (1 - picked ((D.story disk.old).reads 0)) (D.story disk.old).reads)
-        since disk.new
-        ⊎ (OnlyReads D.Disk disk.old disk.new × ((D.story disk.new).time ≤ since))) }
+        (λ _. LeavesFound D.Disk disk.old found since disk.new) (λ _. MayLeaveFound D.Disk disk.old found since disk.new) }
 
     // No page of the data area was written, and a crash leaves each as before.
     ensures wrote { OnlyWrites D.Disk (IsMetadata (D.size disk.old) (D.story disk.old).reads) disk.old disk.new }

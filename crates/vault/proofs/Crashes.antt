@@ -3,8 +3,8 @@ use Rattle.std.proofs.Common.{◌≡◌, ℕ, ◌-◌, ◌≤◌, ◌⊎◌, IsT
 use Rattle.std.specs.FinMap.{FinMap, get}
 use Rattle.disk_model.specs.Disks.{OnlyReads}
 use Rattle.disk_model.specs.declared.disk.Disk.{Ghosts}
-use Rattle.recover.specs.Openings.{LeavesFrom}
-use Rattle.recover.specs.Turns.{InTurn, ReadsThrough, found_by}
+use Rattle.recover.specs.Openings.{LeavesFound, LeavesFrom, MayLeaveFound}
+use Rattle.recover.specs.Turns.{InTurn, ReadsThrough}
 use Rattle.recover.proofs.Survivals.{Turn-leaves}
 use Rattle.store_model.specs.Disk.{Image}
 use Rattle.store_model.specs.Half.{picked}
@@ -21,8 +21,9 @@ use Rattle.store_model.proofs.ImageLaws.{leaves_more}
 use Rattle.store_model.proofs.OffLaws.{picked-half, poured-data}
 use Rattle.store_model.proofs.SurvivalLaws.{found-one}
 use Rattle.store_model.proofs.WindowHeldLaws.{Holds-agree}
+use Rattle.vault.specs.Crashes.{TurnLeaves}
 use Rattle.vault.specs.Leads.{StoreStands}
-use Rattle.vault.specs.Vaults.{IsVault}
+use Rattle.vault.specs.Vaults.{IsVault, found_of}
 use Rattle.vault.specs.declared.memory.Memory.{Memory}
 use Rattle.vault.proofs.Offs.{turn-before}
 use Rattle.vault.proofs.Readings.{ReadsAs-vault}
@@ -54,26 +55,38 @@ ReadsAs-through pages before image layout objects last half found two told same 
           (told.told key);
     }
 
--- A crash in a turn leaves the store of the vault.
+-- A crash in a turn leaves the store of the vault, whole or not;
+pub Turn-through : {D : Type 0} (g : Ghosts D) (old new : D) (mine : Memory) → IsTrue g.tells → IsVault g old mine None
+    → InTurn g mine.layout (1 - mine.log.half) mine.last mine.relation.states old new → TurnLeaves g mine old new
+Turn-through g old new mine tells vault turned =
+    let rest = vault.rest tells refl in
+    let two : picked ((g.story old).reads 0) ≤ 1 = picked-half ((g.story old).reads 0) in
+    Turn-leaves g mine.layout (1 - mine.log.half) mine.last mine.relation.states old new tells turned rest.settled (rest.at.gives, rest.at.apart)
+    (omega (arith, rest.at.half_is, two)) (omega arith) vault.fits
+
+-- and so with all its contents, where they are there.
+pub Through-survives : {D : Type 0} (g : Ghosts D) (old new : D) (mine : Memory) (store : model.Store) → IsTrue g.tells → IsVault g old mine None → StoreStands mine store
+    → AllHeld (g.story old).reads mine.layout store.objects → TurnLeaves g mine old new
+    → LeavesOnly (λ image. ReadsAs (g.size old) image mine.layout store.objects store.last) (g.story old) (g.story new)
+Through-survives g old new mine store tells vault stands held leaves =
+    let rest = vault.rest tells refl in
+    let before : Image = (g.story old).reads in
+    let half : ℕ = 1 - mine.log.half in
+    let told = ReadsAs-vault g old mine store rest stands held in
+    let same : found_of mine ≡ told.found = found-one (g.size old) before (found_of mine) told.found (rest.at.gives, rest.at.apart) told.reads in
+    leaves_more (ReadsThrough (g.size old) (found_of mine) half before) (λ image. ReadsAs (g.size old) image mine.layout store.objects store.last) (g.story old) (g.story new)
+    (λ image through. ReadsAs-through (g.size old) before image mine.layout store.objects store.last half (found_of mine) (omega arith) told same through)
+    leaves
+
 pub Turn-survives : {D : Type 0} (g : Ghosts D) (old new : D) (mine : Memory) (store : model.Store) → IsTrue g.tells → IsVault g old mine None → StoreStands mine store
     → AllHeld (g.story old).reads mine.layout store.objects → InTurn g mine.layout (1 - mine.log.half) mine.last mine.relation.states old new
     → LeavesOnly (λ image. ReadsAs (g.size old) image mine.layout store.objects store.last) (g.story old) (g.story new)
 Turn-survives g old new mine store tells vault stands held turned =
-    let rest = vault.rest tells refl in
-    let before : Image = (g.story old).reads in
-    let half : ℕ = 1 - mine.log.half in
-    let two : picked (before 0) ≤ 1 = picked-half (before 0) in
-    let found : Found = found_by mine.layout mine.last mine.relation.states in
-    let told = ReadsAs-vault g old mine store rest stands held in
-    let same : found ≡ told.found = found-one (g.size old) before found told.found (rest.at.gives, rest.at.apart) told.reads in
-    leaves_more (ReadsThrough (g.size old) found half before) (λ image. ReadsAs (g.size old) image mine.layout store.objects store.last) (g.story old) (g.story new)
-    (λ image through. ReadsAs-through (g.size old) before image mine.layout store.objects store.last half found (omega arith) told same through)
-    (Turn-leaves g mine.layout half mine.last mine.relation.states old new tells turned rest.settled (rest.at.gives, rest.at.apart) (omega (arith, rest.at.half_is, two)) (omega arith) vault.fits)
+    Through-survives g old new mine store tells vault stands held (Turn-through g old new mine tells vault turned)
 
--- A crash in an opening leaves the store that the disk read as.
+-- A crash in an opening leaves the store that the disk read as, with its contents.
 pub From-survives : {D : Type 0} (g : Ghosts D) (old new : D) (layout : Layout) (store : model.Store) (since : ℕ)
-    (told : ReadsAs (g.size old) (g.story old).reads layout store.objects store.last)
-    → LeavesFrom g (ReadsThrough (g.size old) told.found (1 - picked ((g.story old).reads 0)) (g.story old).reads) since new
+    (told : ReadsAs (g.size old) (g.story old).reads layout store.objects store.last) → LeavesFound g old told.found since new
     → LeavesFrom g (λ image. ReadsAs (g.size old) image layout store.objects store.last) since new
 From-survives g old new layout store since told from = record {
   past = from.past;
@@ -83,9 +96,7 @@ From-survives g old new layout store since told from = record {
 }
 
 pub Opening-survives : {D : Type 0} (g : Ghosts D) (old new : D) (layout : Layout) (store : model.Store) (since : ℕ)
-    (told : ReadsAs (g.size old) (g.story old).reads layout store.objects store.last)
-    → LeavesFrom g (ReadsThrough (g.size old) told.found (1 - picked ((g.story old).reads 0)) (g.story old).reads) since new
-    ⊎ (OnlyReads g old new × ((g.story new).time ≤ since))
+    (told : ReadsAs (g.size old) (g.story old).reads layout store.objects store.last) → MayLeaveFound g old told.found since new
     → LeavesFrom g (λ image. ReadsAs (g.size old) image layout store.objects store.last) since new ⊎ (OnlyReads g old new × ((g.story new).time ≤ since))
 Opening-survives g old new layout store since told (inr unsynced) = inr unsynced
 Opening-survives g old new layout store since told (inl from) = inl (From-survives g old new layout store since told from)

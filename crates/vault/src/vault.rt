@@ -6,7 +6,7 @@ ghost use Rattle.disk_model.specs.Disks.{OnlyReads, OnlyWrites};
 ghost use Rattle.extent_io.specs.declared.verdict.Verdict.TheVariants.{Damaged, Whole};
 ghost use Rattle.group_plan.specs.Plans.{committed, members_of, model_reply};
 ghost use Rattle.recover.specs.Faults.{CameFrom, IsRead};
-ghost use Rattle.recover.specs.Openings.{BeginsAt, IsMetadata, LeavesFrom, TookOpening};
+ghost use Rattle.recover.specs.Openings.{BeginsAt, IsMetadata, LeavesFound, MayLeaveFound, TookOpening};
 ghost use Rattle.recover.specs.Turns.{IsTurnPage};
 ghost use Rattle.recover.specs.declared.fault.RecoverFault.TheVariants.{Refused};
 ghost use Rattle.relation.specs.Parts.{encoded_by};
@@ -15,16 +15,16 @@ ghost use Rattle.store_model.specs.Cost.{Cost, with_opening, with_turn};
 ghost use Rattle.store_model.specs.Disk.{Took};
 ghost use Rattle.store_model.specs.Group.{commits_of, reply_of};
 ghost use Rattle.store_model.specs.Holds.{Holds, pages_across};
-ghost use Rattle.store_model.specs.Images.{LeavesOnly, Settled};
+ghost use Rattle.store_model.specs.Images.{Settled};
 ghost use Rattle.store_model.specs.Layout.{Layout, data_page};
 ghost use Rattle.store_model.specs.Log.{body_pages};
-ghost use Rattle.store_model.specs.Reading.{Opened, Reads};
+ghost use Rattle.store_model.specs.Reading.{Found as StoreFound, Opened, Reads};
 ghost use Rattle.store_model.specs.Standing.{AllHeld};
 ghost use Rattle.store_model.specs.State.{State};
 ghost use Rattle.store_model.specs.Store.{Store as ModelStore};
 ghost use Rattle.store_model.specs.Survival.{ReadsAs};
 ghost use Rattle.store_model.specs.Verify.{FailsFirst, IsDamage, LeadsTo, Verifies, computed};
-ghost use Rattle.vault.specs.Crashes.{LeadRests, LeadSurvives};
+ghost use Rattle.vault.specs.Crashes.{LeadRests, LeadSurvives, TurnLeaves};
 ghost use Rattle.vault.specs.Faults.{IsShutBy, IsUnread};
 ghost use Rattle.vault.specs.Frames.{IsLeftUnmade, IsOnlyRead};
 ghost use Rattle.vault.specs.Keeps.{HasFailed, HasKept, IsBegun};
@@ -94,14 +94,11 @@ impl<D: Disk> Vault<D> {
         ensures stands { IsTrue D.tells → (layout : Layout) (store : ModelStore) → ReadsAs (D.size disk) (D.story disk).reads layout store.objects store.last
             → IfOk result (λ vault. IsOpenedAs D.Disk layout store vault.disk vault.memory) }
 
-        // And it is the store that a crash leaves at any moment from the return of the first sync on, and where nothing was pending, from the
-        // call on.
-        ensures survives { IsTrue D.tells → (layout : Layout) (store : ModelStore) (since : ℕ) → BeginsAt D.Disk disk since
-            → ReadsAs (D.size disk) (D.story disk).reads layout store.objects store.last
-            → MatchResult result
-            (λ vault. LeavesFrom D.Disk (λ image. ReadsAs (D.size disk) image layout store.objects store.last) since vault.disk)
-            (λ failed. LeavesFrom D.Disk (λ image. ReadsAs (D.size disk) image layout store.objects store.last) since failed.disk
-            ⊎ (OnlyReads D.Disk disk failed.disk × ((D.story failed.disk).time ≤ since))) }
+        // Whatever store the disk read as, whole or not, is what a crash leaves at any moment from the return of the first sync on, and where
+        // nothing was pending, from the call on.
+        ensures survives { IsTrue D.tells → (found : StoreFound) (since : ℕ) → BeginsAt D.Disk disk since
+            → Reads (D.size disk) (D.story disk).reads (Opened found)
+            → MatchResult result (λ vault. LeavesFound D.Disk disk found since vault.disk) (λ failed. MayLeaveFound D.Disk disk found since failed.disk) }
 
         // No page of the data area was written, and a crash leaves each as before.
         ensures wrote { IfOk result (λ vault. OnlyWrites D.Disk (IsMetadata (D.size disk) (D.story disk).reads) disk vault.disk) }
@@ -203,11 +200,8 @@ impl<D: Disk> Vault<D> {
         // No page but those of the other half has changed, and the selector; and a crash leaves each other page as before.
         ensures wrote { OnlyWrites D.Disk (IsTurnPage self.old.memory.layout (1 - self.old.memory.log.half)) self.old.disk self.new.disk }
 
-        // Whether it ends well or not, a crash at any moment of it leaves the store that it had.
-        ensures survives { IsTrue D.tells → self.old.shut ≡ None → (store : ModelStore) → StoreStands self.old.memory store
-            → AllHeld (D.story self.old.disk).reads self.old.memory.layout store.objects
-            → LeavesOnly (λ image. ReadsAs (D.size self.old.disk) image self.old.memory.layout store.objects store.last)
-            (D.story self.old.disk) (D.story self.new.disk) }
+        // Whether it ends well or not, and whether the contents are whole or not, a crash at any moment of it leaves the store that it had.
+        ensures survives { IsTrue D.tells → self.old.shut ≡ None → TurnLeaves D.Disk self.old.memory self.old.disk self.new.disk }
 
         // A vault that was shut stays so, and writes nothing.
         ensures closed { (cause : Cause) → self.old.shut ≡ Some cause → (result ≡ Err (Shut cause)) × (self.new ≡ self.old) }

@@ -1,7 +1,8 @@
-use Rattle.std.proofs.Common.{inl}
+use Rattle.std.proofs.Common.{◌-◌, inl}
 use Rattle.disk_model.proofs.DiskLaws.{OnlyWrites-reads}
 use Rattle.recover.proofs.Survivals.{LeavesFrom-read}
-use Rattle.store_model.specs.Survival.{ReadsAs}
+use Rattle.recover.specs.Turns.{ReadsThrough}
+use Rattle.store_model.specs.Half.{picked}
 use Rattle.recover.specs.Openings.{IsMetadata}
 use Rattle.vault.specs.Vaults.{found_of}
 use Rattle.blob_report.proofs.Checks.{Checked-broken, Checked-whole, NamesDamage-by}
@@ -43,16 +44,16 @@ returns-in-Err-check-clause-wrote g c =
     c.in-Ok.ensures.wrote c.in-Err-check.ensures.err.only)
 
 pub returns-in-Ok-check-clause-survives : goal.returns-in-Ok-check-clause-survives
-returns-in-Ok-check-clause-survives g c tells layout store since begins told =
+returns-in-Ok-check-clause-survives g c tells found since begins reads =
     rw c.close.ensures.disk
-    (inl (LeavesFrom-read g.D.Disk (λ image. ReadsAs (g.D.Disk.size c.args.disk) image layout store.objects store.last) since c.in-Ok.vault.disk c.check.new.vault.disk tells
-    (c.in-Ok.ensures.survives tells layout store since begins told) c.in-Ok-check.ensures.ok.only))
+    (inl (LeavesFrom-read g.D.Disk (ReadsThrough (g.D.Disk.size c.args.disk) found (1 - picked ((g.D.Disk.story c.args.disk).reads 0)) (g.D.Disk.story c.args.disk).reads) since
+    c.in-Ok.vault.disk c.check.new.vault.disk tells (c.in-Ok.ensures.survives tells found since begins reads) c.in-Ok-check.ensures.ok.only))
 
 pub returns-in-Err-check-clause-survives : goal.returns-in-Err-check-clause-survives
-returns-in-Err-check-clause-survives g c tells layout store since begins told =
+returns-in-Err-check-clause-survives g c tells found since begins reads =
     rw c.close-in-Err-check.ensures.disk
-    (inl (LeavesFrom-read g.D.Disk (λ image. ReadsAs (g.D.Disk.size c.args.disk) image layout store.objects store.last) since c.in-Ok.vault.disk c.check.new.vault.disk tells
-    (c.in-Ok.ensures.survives tells layout store since begins told) c.in-Err-check.ensures.err.only))
+    (inl (LeavesFrom-read g.D.Disk (ReadsThrough (g.D.Disk.size c.args.disk) found (1 - picked ((g.D.Disk.story c.args.disk).reads 0)) (g.D.Disk.story c.args.disk).reads) since
+    c.in-Ok.vault.disk c.check.new.vault.disk tells (c.in-Ok.ensures.survives tells found since begins reads) c.in-Err-check.ensures.err.only))
 
 pub returns-in-Ok-check-clause-costs : goal.returns-in-Ok-check-clause-costs
 returns-in-Ok-check-clause-costs g c reported =

@@ -1,7 +1,6 @@
 use Rattle.std.proofs.Common.{refl, inl, inr}
 use Rattle.recover.specs.Openings.{found_of}
 use Rattle.store_model.specs.Report.{show_text}
-use Rattle.vault.proofs.Crashes.{From-survives, Opening-survives}
 use Rattle.blob_report.proofs.Openings.{CostsOpening-took, opening-unreported}
 use Rattle.blob_report.proofs.Showings.{show-broken}
 use Rattle.blob_report.proofs.showing.run_show.Goals as goal
@@ -31,17 +30,11 @@ returns-clause-showed g c =
       took = c.in-Err-show.ensures.err.front;
     }))
 
-pub returns-in-Err-clause-survives : goal.returns-in-Err-clause-survives
-returns-in-Err-clause-survives g c tells layout store since begins told =
-    Opening-survives g.D.Disk c.args.disk.now c.recover.new.disk layout store since told (c.in-Err.ensures.survives tells told.found since begins told.reads)
-
 pub returns-in-Ok-show-clause-survives : goal.returns-in-Ok-show-clause-survives
-returns-in-Ok-show-clause-survives g c tells layout store since begins told =
-    inl (From-survives g.D.Disk c.args.disk.now c.recover.new.disk layout store since told (c.in-Ok.ensures.survives tells told.found since begins told.reads))
+returns-in-Ok-show-clause-survives g c tells found since begins reads = inl (c.in-Ok.ensures.survives tells found since begins reads)
 
 pub returns-clause-survives : goal.returns-clause-survives
-returns-clause-survives g c tells layout store since begins told =
-    inl (From-survives g.D.Disk c.args.disk.now c.recover.new.disk layout store since told (c.in-Ok.ensures.survives tells told.found since begins told.reads))
+returns-clause-survives g c tells found since begins reads = inl (c.in-Ok.ensures.survives tells found since begins reads)
 
 pub returns-in-Ok-show-clause-costs : goal.returns-in-Ok-show-clause-costs
 returns-in-Ok-show-clause-costs g c reported =

@@ -41,7 +41,7 @@ bytes-held g c state tells there =
     let story = g.D.Disk.story c.args.vault.now.disk in
     held-read story.reads (data_page c.args.vault.now.memory.layout) state (bytes g c) c.gather.new.into c.in_default.field-0
     (length c.deref_mut.result.now) (story.pages story.time story.reads story.own)
-    (c.requires.vault.held.half.tuples c.args.key.now state there).stands (bytes-read g c) c.in_default.ensures.length (size-read g c state there)
+    (c.rules.ensures.held.half.tuples c.args.key.now state there).stands (bytes-read g c) c.in_default.ensures.length (size-read g c state there)
     (c.in_default.ensures.count state there) (λ content holds. c.in_default.ensures.bytes tells state content there holds)
 
 pub returns-clause-shown : goal.returns-clause-shown

@@ -14,7 +14,7 @@ loop-number-init g c =
     let ahead = prepend-none mine.reader left c.requires.none in (
       λ start cost since starts.
           subst (λ from. Going g.D.Disk start cost cost since mine.world 1 left from taken taken mine.world.vault.disk) ahead
-          (Going-first g.D.Disk mine.world start cost since left taken c.requires.sound starts),
+          (Going-first g.D.Disk mine.world start cost since left taken c.rules.ensures starts),
       subst (λ from. GoingSo 1 left from taken taken) ahead (GoingSo-first left taken),
       λ told layout image states one coming. subst (λ from. ComingTo g.D.Disk layout image states one 1 from mine.world) ahead coming,
       record {

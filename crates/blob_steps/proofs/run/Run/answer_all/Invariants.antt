@@ -21,7 +21,7 @@ use Rattle.blob_steps.proofs.run.Run.answer_all.Given as goal
 -- what holds whatever the disk and the source tell
 pub record RunKept {S K D : Type 0} (source : source_trait.Ghosts S) (sink : sink_trait.Ghosts K) (disk : disk_trait.Ghosts D) (first mine : World D) (number : ℕ)
     (source_old : S) (sink_old : K) (source_new : S) (sink_new : K) : Type 0 where
-  pub sound : IsWorld disk mine
+  pub sound : IsWorld mine
   pub layout_is : mine.vault.memory.layout ≡ first.vault.memory.layout
   pub begun : HaveBegun number mine
   pub few : number ≤ 1000001

@@ -21,7 +21,7 @@ returns-in_err-step-clause-going g c = λ start before begun since first old was
     let p = err_from_is_err_and c.from_residual.result c.from_residual.ensures.1 in
     let left = prepend_known c.args.self.now.reader (g.S.Source.left c.args.source.now) in
     rw (p.1, p.2, c.in_err-step.ensures.world)
-    (Ended-reading g.D.Disk start before begun since c.args.self.now.world c.args.number first left old (g.K.Sink.taken c.args.sink.now) was c.requires.sound going
+    (Ended-reading g.D.Disk start before begun since c.args.self.now.world c.args.number first left old (g.K.Sink.taken c.args.sink.now) was c.requires.sound.unshut c.rules.ensures going
     c.in_err-step.field-0.0 (g.K.Sink.frugal c.args.sink.now) (g.S.Source.faults c.args.source.now) (g.S.Source.faults c.next.new.source) c.in_err-step.ensures.ends)
 
 pub returns-in_err-step-clause-so : goal.returns-in_err-step-clause-so
@@ -44,9 +44,9 @@ returns-in_err-do_step-in-Step-clause-going g c = λ start before begun since fi
     let taken = g.K.Sink.taken c.args.sink.now in
     let world = c.in_ok-step.ensures.world in
     let stands = subst (λ mine. WorldStands mine going.world) (sym world) going.stands in
-    let held = held-now disk start before begun since mine c.args.number first left old taken was c.requires.sound going in
+    let held = held-now disk start before begun since mine c.args.number first left old taken was c.requires.sound.unshut c.rules.ensures going in
     rw (p.1, p.2)
-    (Ended-step disk start before begun since mine c.args.number first left old taken was c.requires.sound going
+    (Ended-step disk start before begun since mine c.args.number first left old taken was c.requires.sound.unshut c.rules.ensures going
     c.in_err-do_step-in-Step.field-0.0 c.do_step.new.self.world (g.K.Sink.frugal c.args.sink.now) (disk.faults c.next.new.self.world.vault.disk) (disk.faults c.do_step.new.self.world.vault.disk)
     (model_step c.in-Step.step) rest read.1
     (subst (λ (w : World _). IsUnbuilt w.vault.memory.layout going.world (model_step c.in-Step.step) c.args.number w.vault c.do_step.new.self.world.vault c.in_err-do_step-in-Step.field-0.0) world
@@ -86,7 +86,7 @@ returns-in_err-print-in-Step-clause-going g c = λ start before begun since firs
     (done.layout ∙ ap (λ w. w.vault.memory.layout) world) came.0
     (ap (λ (w : World _). step_play w.vault.memory.layout going.world (model_step c.in-Step.step)) (sym world) ∙ came.1)
     (subst (λ (w : World _). CameTo g.D.Disk going.world came.0 c.do_step.new.self.text w c.do_step.new.self.world) world came.2)
-    done.sound (subst (λ (w : World _). Keeps g.D.Disk w.vault.disk c.do_step.new.self.world.vault.disk) world done.keeps)
+    done.sound.unshut c.rules-in-Step.ensures (subst (λ (w : World _). Keeps g.D.Disk w.vault.disk c.do_step.new.self.world.vault.disk) world done.keeps)
     (subst (λ (w : World _). StepSurvives g.D.Disk (model_step c.in-Step.step) w c.do_step.new.self.world) world done.survives)
     c.in_err-print-in-Step.field-0.0 more (sink.frugal c.args.sink.now) (sink.faults c.args.sink.now) (sink.faults c.print.new.sink)
     (subst (TookFront taken more) c.as_slice.ensures printed.front) printed.ends)
@@ -120,7 +120,7 @@ returns-in_ok-print-in-Step-clause-going g c = λ start before begun since first
     (done.layout ∙ ap (λ w. w.vault.memory.layout) world) came.0
     (ap (λ (w : World _). step_play w.vault.memory.layout going.world (model_step c.in-Step.step)) (sym world) ∙ came.1)
     (subst (λ (w : World _). CameTo g.D.Disk going.world came.0 c.do_step.new.self.text w c.do_step.new.self.world) world came.2)
-    done.sound (subst (λ (w : World _). Keeps g.D.Disk w.vault.disk c.do_step.new.self.world.vault.disk) world done.keeps)
+    done.sound.unshut c.rules-in-Step.ensures (subst (λ (w : World _). Keeps g.D.Disk w.vault.disk c.do_step.new.self.world.vault.disk) world done.keeps)
     (subst (λ (w : World _). StepSurvives g.D.Disk (model_step c.in-Step.step) w c.do_step.new.self.world) world done.survives) more
     (subst (Appends taken more) c.as_slice.ensures c.in_ok-print-in-Step.ensures.ok.took)
 
@@ -142,7 +142,7 @@ pub returns-in-Skipped-clause-going : goal.returns-in-Skipped-clause-going
 returns-in-Skipped-clause-going g c = λ start before begun since first old was going.
     let left = prepend_known c.args.self.now.reader (g.S.Source.left c.args.source.now) in
     let rest = prepend_known c.next.new.self.reader (g.S.Source.left c.next.new.source) in
-    Going-skipped g.D.Disk start before begun since c.args.self.now.world c.args.number first left old (g.K.Sink.taken c.args.sink.now) was c.requires.sound going
+    Going-skipped g.D.Disk start before begun since c.args.self.now.world c.args.number first left old (g.K.Sink.taken c.args.sink.now) was c.requires.sound.unshut c.rules.ensures going
     c.next.new.self.world rest (subst (IsNext c.args.number left rest) c.in-Skipped.is c.in_ok-step.ensures.next) c.in_ok-step.ensures.world
 
 pub returns-in-Skipped-clause-so : goal.returns-in-Skipped-clause-so
@@ -157,7 +157,7 @@ returns-in-End-clause-going g c = λ start before begun since first old was goin
     let left = prepend_known c.args.self.now.reader (g.S.Source.left c.args.source.now) in
     let rest = prepend_known c.next.new.self.reader (g.S.Source.left c.next.new.source) in
     rw c.in_ok-step.ensures.world
-    (Ended-over g.D.Disk start before begun since c.args.self.now.world c.args.number first left old (g.K.Sink.taken c.args.sink.now) was c.requires.sound going
+    (Ended-over g.D.Disk start before begun since c.args.self.now.world c.args.number first left old (g.K.Sink.taken c.args.sink.now) was c.requires.sound.unshut c.rules.ensures going
     (g.K.Sink.frugal c.args.sink.now) (subst (IsNext c.args.number left rest) c.in-End.is c.in_ok-step.ensures.next))
 
 pub returns-in-End-clause-so : goal.returns-in-End-clause-so

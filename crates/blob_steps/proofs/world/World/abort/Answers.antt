@@ -14,8 +14,8 @@ returns g c =
     let later = c.abort.new.self in
     let new : World _ = record { vault = mine.vault; sessions = with_item mine.sessions c.args.session later; queue = mine.queue } in
     let there = get-at mine.sessions.items c.args.session was was (omega (arith, c.requires.sound.sixteen, c.requires.session)) c.index_mut.ensures.value in
-    TakesTurn-alone g.D.Disk mine new c.args.session was later turn.Abort (model_line c.abort.result) c.requires.sound refl
-    (Alone-same g.D.Disk mine new c.args.session was later c.requires.sound refl (record { there = there; new_is = refl }) refl
+    TakesTurn-alone mine new c.args.session was later turn.Abort (model_line c.abort.result) c.requires.sound refl
+    (Alone-same mine new c.args.session was later c.requires.sound refl (record { there = there; new_is = refl }) refl
     (omega (arith, c.abort.ensures.begun)) c.abort.ensures.waits)
     (λ world is. c.abort.ensures.turn world.store (world.sessions c.args.session) c.args.session (is.sessions c.args.session was there))
     (λ theirs stands. (empty_store, (c.abort.ensures.turn empty_store theirs c.args.session stands).stands))

@@ -16,8 +16,8 @@ returns g c =
     let new : World _ = record { vault = mine.vault; sessions = with_item mine.sessions c.args.session later; queue = mine.queue } in
     let there = get-at mine.sessions.items c.args.session was was (omega (arith, c.requires.sound.sixteen, c.requires.session)) c.index_mut.ensures.value in
     let over : Store = record { objects = empty; last = mine.vault.memory.last } in
-    TakesTurn-alone g.D.Disk mine new c.args.session was later turn.Begin (model_line c.begin.result) c.requires.sound refl
-    (Alone-same g.D.Disk mine new c.args.session was later c.requires.sound refl (record { there = there; new_is = refl }) refl
+    TakesTurn-alone mine new c.args.session was later turn.Begin (model_line c.begin.result) c.requires.sound refl
+    (Alone-same mine new c.args.session was later c.requires.sound refl (record { there = there; new_is = refl }) refl
     (omega (arith, c.begin.ensures.begun)) c.begin.ensures.waits)
     (λ world is. c.begin.ensures.turn world.store (world.sessions c.args.session) (sym is.store.last ∙ sym c.front-front.ensures) (is.sessions c.args.session was there))
     (λ theirs stands. (over, (c.begin.ensures.turn over theirs (sym c.front-front.ensures) stands).stands))

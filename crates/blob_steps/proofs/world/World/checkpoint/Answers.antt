@@ -23,16 +23,16 @@ pub returns-in_err-turn-clause-survives : goal.returns-in_err-turn-clause-surviv
 returns-in_err-turn-clause-survives g c =
     let mine = c.args.self.now in
     let later : World _ = record { vault = c.turn.new.self; sessions = mine.sessions; queue = mine.queue } in
-    survives-turned g.D.Disk mine later (λ told. c.turn.ensures.survives told c.requires.sound.unshut)
+    survives-turned g.D.Disk mine later c.rules.ensures c.requires.sound.unshut (λ told. c.turn.ensures.survives told c.requires.sound.unshut)
 
 pub returns-in_err-print-clause-survives : goal.returns-in_err-print-clause-survives
 returns-in_err-print-clause-survives g c =
     let mine = c.args.self.now in
     let later : World _ = record { vault = c.turn.new.self; sessions = mine.sessions; queue = mine.queue } in
-    survives-turned g.D.Disk mine later (λ told. c.turn.ensures.survives told c.requires.sound.unshut)
+    survives-turned g.D.Disk mine later c.rules.ensures c.requires.sound.unshut (λ told. c.turn.ensures.survives told c.requires.sound.unshut)
 
 pub returns-clause-survives : goal.returns-clause-survives
 returns-clause-survives g c =
     let mine = c.args.self.now in
     let later : World _ = record { vault = c.turn.new.self; sessions = mine.sessions; queue = mine.queue } in
-    survives-turned g.D.Disk mine later (λ told. c.turn.ensures.survives told c.requires.sound.unshut)
+    survives-turned g.D.Disk mine later c.rules.ensures c.requires.sound.unshut (λ told. c.turn.ensures.survives told c.requires.sound.unshut)

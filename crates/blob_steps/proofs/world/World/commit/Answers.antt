@@ -15,7 +15,7 @@ returns-in_ok-push-in-Ok-clause-turn g c =
     let was = c.index_mut.result.now in
     let new : World _ = record { vault = mine.vault; sessions = with_item mine.sessions c.args.session c.commit.new.self; queue = c.push.new.self } in
     let there = get-at mine.sessions.items c.args.session was was (omega (arith, c.requires.sound.sixteen, c.requires.session)) c.index_mut.ensures.value in
-    TakesTurn-queued g.D.Disk mine new c.args.session was c.commit.new.self c.in-Ok.request c.requires.sound
+    TakesTurn-queued mine new c.args.session was c.commit.new.self c.in-Ok.request c.requires.sound
     (record {
       set_is = record { there = there; new_is = refl };
       vault = refl;
@@ -31,8 +31,8 @@ returns-in-Err-clause-turn g c =
     let later = c.commit.new.self in
     let new : World _ = record { vault = mine.vault; sessions = with_item mine.sessions c.args.session later; queue = mine.queue } in
     let there = get-at mine.sessions.items c.args.session was was (omega (arith, c.requires.sound.sixteen, c.requires.session)) c.index_mut.ensures.value in
-    TakesTurn-alone g.D.Disk mine new c.args.session was later turn.Commit (model_line c.in-Err.line) c.requires.sound refl
-    (Alone-same g.D.Disk mine new c.args.session was later c.requires.sound refl (record { there = there; new_is = refl }) refl
+    TakesTurn-alone mine new c.args.session was later turn.Commit (model_line c.in-Err.line) c.requires.sound refl
+    (Alone-same mine new c.args.session was later c.requires.sound refl (record { there = there; new_is = refl }) refl
     (omega (arith, c.commit.ensures.begun)) (λ waits. ap (λ (s : Session). s.stage) c.in-Err.ensures.same ∙ waits))
     (λ world is. c.in-Err.ensures.turn world.store (world.sessions c.args.session) c.args.session (is.sessions c.args.session was there))
     (λ theirs stands. (empty_store, (c.in-Err.ensures.turn empty_store theirs c.args.session stands).stands))

@@ -10,5 +10,5 @@ returns-clause-turn g c =
     let mine = c.args.self.now in
     let new : World _ = record { vault = mine.vault; sessions = c.delete.new.sessions; queue = mine.queue } in
     if-ok c.delete.result (λ line done.
-    TakesTurn-turned g.D.Disk mine new c.args.session (turn.Delete c.args.key.now) (model_line line) c.requires.sound
+    TakesTurn-turned mine new c.args.session (turn.Delete c.args.key.now) (model_line line) c.requires.sound
     (λ stage queue number. refl) refl refl done) c.delete.ensures

@@ -27,10 +27,10 @@ returns-then-is_empty-clause-came g c = λ world is.
 pub lead-requires-clause-few : goal.lead-requires-clause-few
 lead-requires-clause-few g c =
     let sound = c.requires.sound in
-    few-requests c.args.self.now.queue sound.distinct (λ i request there. session-below g.D.Disk c.args.self.now sound i request there)
+    few-requests c.args.self.now.queue sound.distinct (λ i request there. session-below c.args.self.now sound i request there)
 
 pub reply_all-requires-clause-sessions : goal.reply_all-requires-clause-sessions
-reply_all-requires-clause-sessions g c = sessions-below g.D.Disk c.args.self.now c.in_ok-numbers.numbers c.requires.sound c.in_ok-numbers.ensures
+reply_all-requires-clause-sessions g c = sessions-below c.args.self.now c.in_ok-numbers.numbers c.requires.sound c.in_ok-numbers.ensures
 
 pub returns-clause-came : goal.returns-clause-came
 returns-clause-came g c = λ world is.
@@ -47,7 +47,6 @@ returns-clause-came g c = λ world is.
       sessions = refl;
       queue = c.in_ok-replies.ensures.left;
       layout = c.in_ok-replies.ensures.layout;
-      vault = c.in_ok-replies.ensures.keeps;
       unshut = c.in_ok-replies.ensures.ok;
       are = AreOf-members (ledger_in mine.vault.memory) (no_tally (ledger_in mine.vault.memory)) mine.queue;
       count = replies-count replies (group_members g.D.Disk mine middle new replies) led.replies_are;
@@ -62,22 +61,20 @@ returns-clause-stepped g c =
     let replies = c.in_ok-replies.replies in
     let ledger = ledger_in mine.vault.memory in
     let members = some_members ledger (length replies) mine.queue in
-    let done : HasLed g.D.Disk mine middle new members (length replies) = record {
+    let done : HasLed mine middle new members (length replies) = record {
       sound = c.requires.sound;
       sessions = refl;
       queue = c.in_ok-replies.ensures.left;
       layout = c.in_ok-replies.ensures.layout;
-      vault = c.in_ok-replies.ensures.keeps;
       unshut = c.in_ok-replies.ensures.ok;
       are = AreOf-some ledger (length replies) mine.queue;
       count = length-some_members ledger (length replies) mine.queue c.in_ok-replies.ensures.few;
       replied = subst (λ (ns : List ℕ). Replying (length replies) ns middle new) c.in_ok-numbers.ensures c.in_ok-reply_all.ensures.replied;
     } in
-    let sound = led-sound g.D.Disk mine middle new members (length replies) done in
+    let sound = led-sound mine middle new members (length replies) done in
     record {
       sound = sound;
-      vault = sound.vault;
-      begun = led-begun g.D.Disk mine middle new members (length replies) done;
+      begun = led-begun mine middle new members (length replies) done;
       layout = ap (λ (v : Vault _). v.memory.layout) c.in_ok-reply_all.ensures.vault ∙ c.in_ok-replies.ensures.layout;
       keeps = subst (λ (v : Vault _). Keeps g.D.Disk mine.vault.disk v.disk) (sym c.in_ok-reply_all.ensures.vault)
           (lead-keeps g.D.Disk mine.vault.memory mine.queue (members_of ledger mine.queue) mine.vault.disk c.lead.new.self.disk c.in_ok-replies.ensures.wrote);
@@ -107,7 +104,6 @@ returns-clause-follows g c = λ world is none.
       sessions = refl;
       queue = c.in_ok-replies.ensures.left;
       layout = c.in_ok-replies.ensures.layout;
-      vault = c.in_ok-replies.ensures.keeps;
       unshut = c.in_ok-replies.ensures.ok;
       are = AreOf-members (ledger_in mine.vault.memory) (no_tally (ledger_in mine.vault.memory)) mine.queue;
       count = replies-count replies (group_members g.D.Disk mine middle new replies) c.in_ok-replies.ensures.replied;

@@ -24,7 +24,7 @@ pub returns-in-Own-clause-came : goal.returns-in-Own-clause-came
 returns-in-Own-clause-came g c = λ world is.
     let mine = c.args.self.now in
     let new : World _ = record { vault = mine.vault; sessions = c.find.new.sessions; queue = mine.queue } in
-    came-own g.D.Disk mine new c.args.session c.args.key.now c.in_ok-line.field-0 c.requires.sound (same-looked g.D.Disk mine new c.requires.sound refl refl)
+    came-own g.D.Disk mine new c.args.session c.args.key.now c.in_ok-line.field-0 c.requires.sound (same-looked mine new refl refl)
     c.in_ok-line.ensures c.args.look world is c.show_own.new.text c.in-Own.is refl
     (λ later stands put. c.in_ok-show_own-in-Own.ensures later stands put
     ∙ ap (λ (front : List ℕ). front ++ answer_text (answer.Session c.args.session
@@ -34,11 +34,10 @@ pub returns-in-Own-clause-stepped : goal.returns-in-Own-clause-stepped
 returns-in-Own-clause-stepped g c =
     let mine = c.args.self.now in
     let new : World _ = record { vault = mine.vault; sessions = c.find.new.sessions; queue = mine.queue } in
-    let moves = look-moves g.D.Disk mine new c.args.session c.args.key.now c.in_ok-line.field-0 c.requires.sound (same-looked g.D.Disk mine new c.requires.sound refl refl)
+    let moves = look-moves g.D.Disk mine new c.args.session c.args.key.now c.in_ok-line.field-0 c.requires.sound (same-looked mine new refl refl)
     c.in_ok-line.ensures c.args.look in
     record {
       sound = moves.sound;
-      vault = moves.sound.vault;
       begun = moves.begun;
       layout = refl;
       keeps = Keeps-none g.D.Disk mine.vault.disk;
@@ -55,7 +54,6 @@ returns-in_err-line-in-Stored-clause-stepped g c =
     rw (p.1, p.2)
     (record {
       sound = tt;
-      vault = shown.keeps;
       begun = λ n have. tt;
       layout = ap (λ (m : Memory). m.layout) shown.memory;
       keeps = shown.only_reads.keeps;
@@ -73,13 +71,13 @@ returns-clause-came g c = λ world is.
       | in-Line w ↦
           (let new : World _ = record { vault = mine.vault; sessions = c.find.new.sessions; queue = mine.queue } in
           came-as g.D.Disk world (transact world c.args.session (look_action c.args.look c.args.key.now)) c.answer.new.text mine new c.match-branch-2.self w.self-is
-          (came-line g.D.Disk mine new c.args.session c.args.key.now c.in_ok-line.field-0 c.requires.sound (same-looked g.D.Disk mine new c.requires.sound refl refl)
+          (came-line g.D.Disk mine new c.args.session c.args.key.now c.in_ok-line.field-0 c.requires.sound (same-looked mine new refl refl)
           c.in_ok-line.ensures c.args.look world is c.answer.new.text w.in-Line.line w.in-Line.is refl
           (text ∙ ap (λ (l : AnswerLine). answer_text (answer.Session c.args.session (model_line l) None)) w.line-is)))
       | in-Stored+in_ok-line-in-Stored w ↦
           (let new : World _ = record { vault = w.show.new.vault; sessions = c.find.new.sessions; queue = mine.queue } in
           let shown = w.in_ok-line-in-Stored.ensures in
-          let left : WasLooked g.D.Disk mine new = record { memory = shown.memory; kept = shown.keeps; shut = shown.shut; queue = refl } in
+          let left : WasLooked mine new = record { memory = shown.memory; shut = shown.shut; queue = refl } in
           came-as g.D.Disk world (transact world c.args.session (look_action c.args.look c.args.key.now)) c.answer.new.text mine new c.match-branch-2.self w.self-is
           (came-stored g.D.Disk mine new c.args.session c.args.key.now c.in_ok-line.field-0 c.requires.sound left
           c.in_ok-line.ensures c.args.look world is c.answer.new.text w.show.result w.in_ok-line-in-Stored.line w.in_ok-line-in-Stored.was w.in-Stored.is
@@ -93,12 +91,12 @@ returns-clause-stepped g c =
     elim c.match-branch-2.branch [
       | in-Line w ↦
           (let new : World _ = record { vault = mine.vault; sessions = c.find.new.sessions; queue = mine.queue } in
-          look-stepped g.D.Disk mine new c.args.session c.args.key.now c.in_ok-line.field-0 c.requires.sound (same-looked g.D.Disk mine new c.requires.sound refl refl)
+          look-stepped g.D.Disk mine new c.args.session c.args.key.now c.in_ok-line.field-0 c.requires.sound (same-looked mine new refl refl)
           c.in_ok-line.ensures c.args.look c.match-branch-2.self tt w.self-is (Keeps-none g.D.Disk mine.vault.disk))
       | in-Stored+in_ok-line-in-Stored w ↦
           (let new : World _ = record { vault = w.show.new.vault; sessions = c.find.new.sessions; queue = mine.queue } in
           let shown = w.in_ok-line-in-Stored.ensures in
-          let left : WasLooked g.D.Disk mine new = record { memory = shown.memory; kept = shown.keeps; shut = shown.shut; queue = refl } in
+          let left : WasLooked mine new = record { memory = shown.memory; shut = shown.shut; queue = refl } in
           look-stepped g.D.Disk mine new c.args.session c.args.key.now c.in_ok-line.field-0 c.requires.sound left
           c.in_ok-line.ensures c.args.look c.match-branch-2.self tt w.self-is shown.only_reads.keeps)
     ]
@@ -107,14 +105,14 @@ pub returns-in-Own-clause-follows : goal.returns-in-Own-clause-follows
 returns-in-Own-clause-follows g c = λ world is.
     let mine = c.args.self.now in
     let new : World _ = record { vault = mine.vault; sessions = c.find.new.sessions; queue = mine.queue } in
-    follows-look g.D.Disk mine new c.args.session c.args.key.now c.in_ok-line.field-0 c.requires.sound (same-looked g.D.Disk mine new c.requires.sound refl refl)
+    follows-look g.D.Disk mine new c.args.session c.args.key.now c.in_ok-line.field-0 c.requires.sound (same-looked mine new refl refl)
     c.in_ok-line.ensures world is c.args.look (OnlyReads-none g.D.Disk mine.vault.disk)
 
 pub returns-in-Own-clause-breaks : goal.returns-in-Own-clause-breaks
 returns-in-Own-clause-breaks g c = λ told world is.
     let mine = c.args.self.now in
     let new : World _ = record { vault = mine.vault; sessions = c.find.new.sessions; queue = mine.queue } in
-    unbroken-line g.D.Disk mine new c.args.session c.args.key.now c.in_ok-line.field-0 c.requires.sound (same-looked g.D.Disk mine new c.requires.sound refl refl)
+    unbroken-line g.D.Disk mine new c.args.session c.args.key.now c.in_ok-line.field-0 c.requires.sound (same-looked mine new refl refl)
     c.in_ok-line.ensures world is c.args.look (own-stored c.in_ok-line.field-0 c.in-Own.is)
 
 pub returns-in_err-line-in-Stored-clause-breaks : goal.returns-in_err-line-in-Stored-clause-breaks
@@ -124,7 +122,7 @@ returns-in_err-line-in-Stored-clause-breaks g c = λ told world is.
     let mine = c.args.self.now in
     let new : World _ = record { vault = mine.vault; sessions = c.find.new.sessions; queue = mine.queue } in
     rw (p.1, p.2)
-    (broken-stored g.D.Disk mine new c.args.session c.args.key.now c.in_ok-line.field-0 c.requires.sound (same-looked g.D.Disk mine new c.requires.sound refl refl)
+    (broken-stored g.D.Disk mine new c.args.session c.args.key.now c.in_ok-line.field-0 c.requires.sound (same-looked mine new refl refl)
     c.in_ok-line.ensures world is c.args.look c.in_err-line-in-Stored.field-0.0 shown.get c.in-Stored.is shown.damaged (shown.fails told))
 
 pub returns-clause-follows : goal.returns-clause-follows
@@ -135,12 +133,12 @@ returns-clause-follows g c = λ world is.
       | in-Line w ↦
           (let new : World _ = record { vault = mine.vault; sessions = c.find.new.sessions; queue = mine.queue } in
           subst (λ (later : World _). Follows g.D.Disk after mine later) (sym w.self-is)
-          (follows-look g.D.Disk mine new c.args.session c.args.key.now c.in_ok-line.field-0 c.requires.sound (same-looked g.D.Disk mine new c.requires.sound refl refl)
+          (follows-look g.D.Disk mine new c.args.session c.args.key.now c.in_ok-line.field-0 c.requires.sound (same-looked mine new refl refl)
           c.in_ok-line.ensures world is c.args.look (OnlyReads-none g.D.Disk mine.vault.disk)))
       | in-Stored+in_ok-line-in-Stored w ↦
           (let new : World _ = record { vault = w.show.new.vault; sessions = c.find.new.sessions; queue = mine.queue } in
           let shown = w.in_ok-line-in-Stored.ensures in
-          let left : WasLooked g.D.Disk mine new = record { memory = shown.memory; kept = shown.keeps; shut = shown.shut; queue = refl } in
+          let left : WasLooked mine new = record { memory = shown.memory; shut = shown.shut; queue = refl } in
           subst (λ (later : World _). Follows g.D.Disk after mine later) (sym w.self-is)
           (follows-look g.D.Disk mine new c.args.session c.args.key.now c.in_ok-line.field-0 c.requires.sound left c.in_ok-line.ensures world is c.args.look shown.only_reads))
     ]
@@ -149,7 +147,7 @@ pub returns-clause-breaks : goal.returns-clause-breaks
 returns-clause-breaks g c = λ told world is.
     let mine = c.args.self.now in
     let new : World _ = record { vault = mine.vault; sessions = c.find.new.sessions; queue = mine.queue } in
-    let left : WasLooked g.D.Disk mine new = same-looked g.D.Disk mine new c.requires.sound refl refl in
+    let left : WasLooked mine new = same-looked mine new refl refl in
     elim c.match-branch-2.branch [
       | in-Line w ↦
           unbroken-line g.D.Disk mine new c.args.session c.args.key.now c.in_ok-line.field-0 c.requires.sound left

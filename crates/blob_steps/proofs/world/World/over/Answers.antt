@@ -8,7 +8,7 @@ use Rattle.blob_steps.proofs.world.World.over.Goals as goal
 pub returns-clause-sound : goal.returns-clause-sound
 returns-clause-sound g c =
     let mine : World _ = record { vault = c.args.vault; sessions = c.args.sessions; queue = c.new.result } in
-    IsWorld-new g.D.Disk mine c.requires.vault c.requires.open c.requires.count c.requires.new c.new.ensures
+    IsWorld-new mine c.requires.open c.requires.count c.requires.new c.new.ensures
 
 pub returns-clause-begun : goal.returns-clause-begun
 returns-clause-begun g c = λ number one is. omega (arith, (c.requires.new number one is).0)

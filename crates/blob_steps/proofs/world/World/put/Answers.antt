@@ -17,8 +17,8 @@ returns-clause-turn g c =
     let there = get-at mine.sessions.items c.args.session was was (omega (arith, c.requires.sound.sixteen, c.requires.session)) c.index_mut.ensures.value in
     let action = turn.Put c.args.key.now (content_bytes c.args.content.now) in
     if-ok c.put.result (λ line turns.
-    TakesTurn-alone g.D.Disk mine new c.args.session was later action (model_line line) c.requires.sound refl
-    (Alone-same g.D.Disk mine new c.args.session was later c.requires.sound refl (record { there = there; new_is = refl }) refl
+    TakesTurn-alone mine new c.args.session was later action (model_line line) c.requires.sound refl
+    (Alone-same mine new c.args.session was later c.requires.sound refl (record { there = there; new_is = refl }) refl
     (omega (arith, c.put.ensures.begun)) c.put.ensures.waits)
     (λ world is. turns world.store (world.sessions c.args.session) c.args.session (is.sessions c.args.session was there))
     (λ theirs stands. (empty_store, (turns empty_store theirs c.args.session stands).stands))

@@ -46,19 +46,19 @@ returns-clause-play g c = λ world is.
           w.begin-line.ensures w.self-is w.line-is (ap (λ (a : Action). model_action a) w.in-Begin.is) refl text
       | in-Commit+in_ok-line-in-Commit w ↦
           turn-plays g.D.Disk mine w.commit.new.self c.match-action.self c.args.session turn.Commit (model_action c.args.action) w.in_ok-line-in-Commit.line c.match-action.line c.answer.new.text world is
-          (ok-is (λ (l : AnswerLine). TakesTurn g.D.Disk mine w.commit.new.self c.args.session turn.Commit (model_line l)) w.commit.result w.in_ok-line-in-Commit.line w.in_ok-line-in-Commit.was w.commit.ensures.turn) w.self-is w.line-is (ap (λ (a : Action). model_action a) w.in-Commit.is) refl text
+          (ok-is (λ (l : AnswerLine). TakesTurn mine w.commit.new.self c.args.session turn.Commit (model_line l)) w.commit.result w.in_ok-line-in-Commit.line w.in_ok-line-in-Commit.was w.commit.ensures.turn) w.self-is w.line-is (ap (λ (a : Action). model_action a) w.in-Commit.is) refl text
       | in-Abort w ↦
           turn-plays g.D.Disk mine w.abort-line.new.self c.match-action.self c.args.session turn.Abort (model_action c.args.action) w.abort-line.result c.match-action.line c.answer.new.text world is
           w.abort-line.ensures w.self-is w.line-is (ap (λ (a : Action). model_action a) w.in-Abort.is) refl text
       | in-Put+in_ok-line-in-Put+in-Hex-1 w ↦
           turn-plays g.D.Disk mine w.put.new.self c.match-action.self c.args.session (turn.Put w.in-Put.key (content_bytes w.in-Put.content)) (model_action c.args.action) w.in_ok-line-in-Put.line c.match-action.line c.answer.new.text world is
-          (ok-is (λ (l : AnswerLine). TakesTurn g.D.Disk mine w.put.new.self c.args.session (turn.Put w.in-Put.key (content_bytes w.in-Put.content)) (model_line l)) w.put.result w.in_ok-line-in-Put.line w.in_ok-line-in-Put.was w.put.ensures.turn) w.self-is w.line-is (ap (λ (a : Action). model_action a) w.in-Put.is) refl text
+          (ok-is (λ (l : AnswerLine). TakesTurn mine w.put.new.self c.args.session (turn.Put w.in-Put.key (content_bytes w.in-Put.content)) (model_line l)) w.put.result w.in_ok-line-in-Put.line w.in_ok-line-in-Put.was w.put.ensures.turn) w.self-is w.line-is (ap (λ (a : Action). model_action a) w.in-Put.is) refl text
       | in-Put+in_ok-line-in-Put+in-Made-1 w ↦
           turn-plays g.D.Disk mine w.put.new.self c.match-action.self c.args.session (turn.Put w.in-Put.key (content_bytes w.in-Put.content)) (model_action c.args.action) w.in_ok-line-in-Put.line c.match-action.line c.answer.new.text world is
-          (ok-is (λ (l : AnswerLine). TakesTurn g.D.Disk mine w.put.new.self c.args.session (turn.Put w.in-Put.key (content_bytes w.in-Put.content)) (model_line l)) w.put.result w.in_ok-line-in-Put.line w.in_ok-line-in-Put.was w.put.ensures.turn) w.self-is w.line-is (ap (λ (a : Action). model_action a) w.in-Put.is) refl text
+          (ok-is (λ (l : AnswerLine). TakesTurn mine w.put.new.self c.args.session (turn.Put w.in-Put.key (content_bytes w.in-Put.content)) (model_line l)) w.put.result w.in_ok-line-in-Put.line w.in_ok-line-in-Put.was w.put.ensures.turn) w.self-is w.line-is (ap (λ (a : Action). model_action a) w.in-Put.is) refl text
       | in-Del+in_ok-line-in-Del w ↦
           turn-plays g.D.Disk mine w.del.new.self c.match-action.self c.args.session (turn.Delete w.in-Del.key) (model_action c.args.action) w.in_ok-line-in-Del.line c.match-action.line c.answer.new.text world is
-          (ok-is (λ (l : AnswerLine). TakesTurn g.D.Disk mine w.del.new.self c.args.session (turn.Delete w.in-Del.key) (model_line l)) w.del.result w.in_ok-line-in-Del.line w.in_ok-line-in-Del.was w.del.ensures.turn) w.self-is w.line-is (ap (λ (a : Action). model_action a) w.in-Del.is) refl text
+          (ok-is (λ (l : AnswerLine). TakesTurn mine w.del.new.self c.args.session (turn.Delete w.in-Del.key) (model_line l)) w.del.result w.in_ok-line-in-Del.line w.in_ok-line-in-Del.was w.del.ensures.turn) w.self-is w.line-is (ap (λ (a : Action). model_action a) w.in-Del.is) refl text
     ]
 
 pub returns-clause-stepped : goal.returns-clause-stepped
@@ -70,19 +70,19 @@ returns-clause-stepped g c =
           w.begin-line.ensures w.self-is
       | in-Commit+in_ok-line-in-Commit w ↦
           turn-stepped g.D.Disk mine w.commit.new.self c.match-action.self c.args.session turn.Commit (model_line w.in_ok-line-in-Commit.line) Answered
-          (ok-is (λ (l : AnswerLine). TakesTurn g.D.Disk mine w.commit.new.self c.args.session turn.Commit (model_line l)) w.commit.result w.in_ok-line-in-Commit.line w.in_ok-line-in-Commit.was w.commit.ensures.turn) w.self-is
+          (ok-is (λ (l : AnswerLine). TakesTurn mine w.commit.new.self c.args.session turn.Commit (model_line l)) w.commit.result w.in_ok-line-in-Commit.line w.in_ok-line-in-Commit.was w.commit.ensures.turn) w.self-is
       | in-Abort w ↦
           turn-stepped g.D.Disk mine w.abort-line.new.self c.match-action.self c.args.session turn.Abort (model_line w.abort-line.result) Answered
           w.abort-line.ensures w.self-is
       | in-Put+in_ok-line-in-Put+in-Hex-1 w ↦
           turn-stepped g.D.Disk mine w.put.new.self c.match-action.self c.args.session (turn.Put w.in-Put.key (content_bytes w.in-Put.content)) (model_line w.in_ok-line-in-Put.line) Answered
-          (ok-is (λ (l : AnswerLine). TakesTurn g.D.Disk mine w.put.new.self c.args.session (turn.Put w.in-Put.key (content_bytes w.in-Put.content)) (model_line l)) w.put.result w.in_ok-line-in-Put.line w.in_ok-line-in-Put.was w.put.ensures.turn) w.self-is
+          (ok-is (λ (l : AnswerLine). TakesTurn mine w.put.new.self c.args.session (turn.Put w.in-Put.key (content_bytes w.in-Put.content)) (model_line l)) w.put.result w.in_ok-line-in-Put.line w.in_ok-line-in-Put.was w.put.ensures.turn) w.self-is
       | in-Put+in_ok-line-in-Put+in-Made-1 w ↦
           turn-stepped g.D.Disk mine w.put.new.self c.match-action.self c.args.session (turn.Put w.in-Put.key (content_bytes w.in-Put.content)) (model_line w.in_ok-line-in-Put.line) Answered
-          (ok-is (λ (l : AnswerLine). TakesTurn g.D.Disk mine w.put.new.self c.args.session (turn.Put w.in-Put.key (content_bytes w.in-Put.content)) (model_line l)) w.put.result w.in_ok-line-in-Put.line w.in_ok-line-in-Put.was w.put.ensures.turn) w.self-is
+          (ok-is (λ (l : AnswerLine). TakesTurn mine w.put.new.self c.args.session (turn.Put w.in-Put.key (content_bytes w.in-Put.content)) (model_line l)) w.put.result w.in_ok-line-in-Put.line w.in_ok-line-in-Put.was w.put.ensures.turn) w.self-is
       | in-Del+in_ok-line-in-Del w ↦
           turn-stepped g.D.Disk mine w.del.new.self c.match-action.self c.args.session (turn.Delete w.in-Del.key) (model_line w.in_ok-line-in-Del.line) Answered
-          (ok-is (λ (l : AnswerLine). TakesTurn g.D.Disk mine w.del.new.self c.args.session (turn.Delete w.in-Del.key) (model_line l)) w.del.result w.in_ok-line-in-Del.line w.in_ok-line-in-Del.was w.del.ensures.turn) w.self-is
+          (ok-is (λ (l : AnswerLine). TakesTurn mine w.del.new.self c.args.session (turn.Delete w.in-Del.key) (model_line l)) w.del.result w.in_ok-line-in-Del.line w.in_ok-line-in-Del.was w.del.ensures.turn) w.self-is
     ]
 
 pub returns-in-Get-clause-always : goal.returns-in-Get-clause-always
@@ -103,19 +103,19 @@ returns-in_err-answer-clause-stepped g c =
           w.begin-line.ensures w.self-is (p.1 ∙ ap Err p.2)
       | in-Commit+in_ok-line-in-Commit w ↦
           turn-failed g.D.Disk mine w.commit.new.self c.match-action.self c.args.session turn.Commit (model_line w.in_ok-line-in-Commit.line) c.from_residual-in_err-answer.result
-          (ok-is (λ (l : AnswerLine). TakesTurn g.D.Disk mine w.commit.new.self c.args.session turn.Commit (model_line l)) w.commit.result w.in_ok-line-in-Commit.line w.in_ok-line-in-Commit.was w.commit.ensures.turn) w.self-is (p.1 ∙ ap Err p.2)
+          (ok-is (λ (l : AnswerLine). TakesTurn mine w.commit.new.self c.args.session turn.Commit (model_line l)) w.commit.result w.in_ok-line-in-Commit.line w.in_ok-line-in-Commit.was w.commit.ensures.turn) w.self-is (p.1 ∙ ap Err p.2)
       | in-Abort w ↦
           turn-failed g.D.Disk mine w.abort-line.new.self c.match-action.self c.args.session turn.Abort (model_line w.abort-line.result) c.from_residual-in_err-answer.result
           w.abort-line.ensures w.self-is (p.1 ∙ ap Err p.2)
       | in-Put+in_ok-line-in-Put+in-Hex-1 w ↦
           turn-failed g.D.Disk mine w.put.new.self c.match-action.self c.args.session (turn.Put w.in-Put.key (content_bytes w.in-Put.content)) (model_line w.in_ok-line-in-Put.line) c.from_residual-in_err-answer.result
-          (ok-is (λ (l : AnswerLine). TakesTurn g.D.Disk mine w.put.new.self c.args.session (turn.Put w.in-Put.key (content_bytes w.in-Put.content)) (model_line l)) w.put.result w.in_ok-line-in-Put.line w.in_ok-line-in-Put.was w.put.ensures.turn) w.self-is (p.1 ∙ ap Err p.2)
+          (ok-is (λ (l : AnswerLine). TakesTurn mine w.put.new.self c.args.session (turn.Put w.in-Put.key (content_bytes w.in-Put.content)) (model_line l)) w.put.result w.in_ok-line-in-Put.line w.in_ok-line-in-Put.was w.put.ensures.turn) w.self-is (p.1 ∙ ap Err p.2)
       | in-Put+in_ok-line-in-Put+in-Made-1 w ↦
           turn-failed g.D.Disk mine w.put.new.self c.match-action.self c.args.session (turn.Put w.in-Put.key (content_bytes w.in-Put.content)) (model_line w.in_ok-line-in-Put.line) c.from_residual-in_err-answer.result
-          (ok-is (λ (l : AnswerLine). TakesTurn g.D.Disk mine w.put.new.self c.args.session (turn.Put w.in-Put.key (content_bytes w.in-Put.content)) (model_line l)) w.put.result w.in_ok-line-in-Put.line w.in_ok-line-in-Put.was w.put.ensures.turn) w.self-is (p.1 ∙ ap Err p.2)
+          (ok-is (λ (l : AnswerLine). TakesTurn mine w.put.new.self c.args.session (turn.Put w.in-Put.key (content_bytes w.in-Put.content)) (model_line l)) w.put.result w.in_ok-line-in-Put.line w.in_ok-line-in-Put.was w.put.ensures.turn) w.self-is (p.1 ∙ ap Err p.2)
       | in-Del+in_ok-line-in-Del w ↦
           turn-failed g.D.Disk mine w.del.new.self c.match-action.self c.args.session (turn.Delete w.in-Del.key) (model_line w.in_ok-line-in-Del.line) c.from_residual-in_err-answer.result
-          (ok-is (λ (l : AnswerLine). TakesTurn g.D.Disk mine w.del.new.self c.args.session (turn.Delete w.in-Del.key) (model_line l)) w.del.result w.in_ok-line-in-Del.line w.in_ok-line-in-Del.was w.del.ensures.turn) w.self-is (p.1 ∙ ap Err p.2)
+          (ok-is (λ (l : AnswerLine). TakesTurn mine w.del.new.self c.args.session (turn.Delete w.in-Del.key) (model_line l)) w.del.result w.in_ok-line-in-Del.line w.in_ok-line-in-Del.was w.del.ensures.turn) w.self-is (p.1 ∙ ap Err p.2)
     ]
 
 pub returns-clause-always : goal.returns-clause-always
@@ -141,7 +141,7 @@ returns-clause-follows g c = λ world is.
       | in-Commit+in_ok-line-in-Commit w ↦ (
         transact world c.args.session turn.Commit,
         ap (λ (a : Action). action_play world c.args.session (model_action a)) w.in-Commit.is,
-        λ none. follows-turn g.D.Disk mine w.commit.new.self c.match-action.self c.args.session turn.Commit world is (ok-is (λ (l : AnswerLine). TakesTurn g.D.Disk mine w.commit.new.self c.args.session turn.Commit (model_line l)) w.commit.result w.in_ok-line-in-Commit.line w.in_ok-line-in-Commit.was w.commit.ensures.turn) w.self-is,
+        λ none. follows-turn g.D.Disk mine w.commit.new.self c.match-action.self c.args.session turn.Commit world is (ok-is (λ (l : AnswerLine). TakesTurn mine w.commit.new.self c.args.session turn.Commit (model_line l)) w.commit.result w.in_ok-line-in-Commit.line w.in_ok-line-in-Commit.was w.commit.ensures.turn) w.self-is,
       )
       | in-Abort w ↦ (
         transact world c.args.session turn.Abort,
@@ -151,17 +151,17 @@ returns-clause-follows g c = λ world is.
       | in-Put+in_ok-line-in-Put+in-Hex-1 w ↦ (
         transact world c.args.session (turn.Put w.in-Put.key (content_bytes w.in-Put.content)),
         ap (λ (a : Action). action_play world c.args.session (model_action a)) w.in-Put.is,
-        λ none. follows-turn g.D.Disk mine w.put.new.self c.match-action.self c.args.session (turn.Put w.in-Put.key (content_bytes w.in-Put.content)) world is (ok-is (λ (l : AnswerLine). TakesTurn g.D.Disk mine w.put.new.self c.args.session (turn.Put w.in-Put.key (content_bytes w.in-Put.content)) (model_line l)) w.put.result w.in_ok-line-in-Put.line w.in_ok-line-in-Put.was w.put.ensures.turn) w.self-is,
+        λ none. follows-turn g.D.Disk mine w.put.new.self c.match-action.self c.args.session (turn.Put w.in-Put.key (content_bytes w.in-Put.content)) world is (ok-is (λ (l : AnswerLine). TakesTurn mine w.put.new.self c.args.session (turn.Put w.in-Put.key (content_bytes w.in-Put.content)) (model_line l)) w.put.result w.in_ok-line-in-Put.line w.in_ok-line-in-Put.was w.put.ensures.turn) w.self-is,
       )
       | in-Put+in_ok-line-in-Put+in-Made-1 w ↦ (
         transact world c.args.session (turn.Put w.in-Put.key (content_bytes w.in-Put.content)),
         ap (λ (a : Action). action_play world c.args.session (model_action a)) w.in-Put.is,
-        λ none. follows-turn g.D.Disk mine w.put.new.self c.match-action.self c.args.session (turn.Put w.in-Put.key (content_bytes w.in-Put.content)) world is (ok-is (λ (l : AnswerLine). TakesTurn g.D.Disk mine w.put.new.self c.args.session (turn.Put w.in-Put.key (content_bytes w.in-Put.content)) (model_line l)) w.put.result w.in_ok-line-in-Put.line w.in_ok-line-in-Put.was w.put.ensures.turn) w.self-is,
+        λ none. follows-turn g.D.Disk mine w.put.new.self c.match-action.self c.args.session (turn.Put w.in-Put.key (content_bytes w.in-Put.content)) world is (ok-is (λ (l : AnswerLine). TakesTurn mine w.put.new.self c.args.session (turn.Put w.in-Put.key (content_bytes w.in-Put.content)) (model_line l)) w.put.result w.in_ok-line-in-Put.line w.in_ok-line-in-Put.was w.put.ensures.turn) w.self-is,
       )
       | in-Del+in_ok-line-in-Del w ↦ (
         transact world c.args.session (turn.Delete w.in-Del.key),
         ap (λ (a : Action). action_play world c.args.session (model_action a)) w.in-Del.is,
-        λ none. follows-turn g.D.Disk mine w.del.new.self c.match-action.self c.args.session (turn.Delete w.in-Del.key) world is (ok-is (λ (l : AnswerLine). TakesTurn g.D.Disk mine w.del.new.self c.args.session (turn.Delete w.in-Del.key) (model_line l)) w.del.result w.in_ok-line-in-Del.line w.in_ok-line-in-Del.was w.del.ensures.turn) w.self-is,
+        λ none. follows-turn g.D.Disk mine w.del.new.self c.match-action.self c.args.session (turn.Delete w.in-Del.key) world is (ok-is (λ (l : AnswerLine). TakesTurn mine w.del.new.self c.args.session (turn.Delete w.in-Del.key) (model_line l)) w.del.result w.in_ok-line-in-Del.line w.in_ok-line-in-Del.was w.del.ensures.turn) w.self-is,
       )
     ]
 

@@ -10,7 +10,6 @@ use Rattle.vault.proofs.Costings.{Costs-opened}
 use Rattle.vault.proofs.Gates.{IsAtRest-turned}
 use Rattle.vault.proofs.Ledgers.{bytes-alike}
 use Rattle.vault.proofs.Readings.{IsOpenedAs-read}
-use Rattle.vault.proofs.Crashes.{From-survives, Opening-survives}
 use Rattle.vault.proofs.inner.Core.open.Goals as goal
 
 pub returns-in-Ok-begin-clause-found : goal.returns-in-Ok-begin-clause-found
@@ -60,14 +59,5 @@ returns-in-Ok-begin-clause-costs g c store cost stands =
     (ap (λ (log : Parts). log.gate) (made.log ∙ c.in-Ok.ensures.sound.log))
     (λ tells. subst (λ (r : RelationParts). TookOpening (encoded_by r.states) (disk.calls c.args.disk) (disk.calls c.recover.new.disk)) (sym made.relation) (c.in-Ok.ensures.calls tells))
 
-pub returns-in-Ok-begin-clause-survives : goal.returns-in-Ok-begin-clause-survives
-returns-in-Ok-begin-clause-survives g c tells layout store since begins told =
-    From-survives g.D.Disk c.args.disk c.recover.new.disk layout store since told (c.in-Ok.ensures.survives tells told.found since begins told.reads)
-
 pub returns-in-Err-begin-clause-survives : goal.returns-in-Err-begin-clause-survives
-returns-in-Err-begin-clause-survives g c tells layout store since begins told =
-    inl (From-survives g.D.Disk c.args.disk c.recover.new.disk layout store since told (c.in-Ok.ensures.survives tells told.found since begins told.reads))
-
-pub returns-in-Err-clause-survives : goal.returns-in-Err-clause-survives
-returns-in-Err-clause-survives g c tells layout store since begins told =
-    Opening-survives g.D.Disk c.args.disk c.recover.new.disk layout store since told (c.in-Err.ensures.survives tells told.found since begins told.reads)
+returns-in-Err-begin-clause-survives g c tells found since begins reads = inl (c.in-Ok.ensures.survives tells found since begins reads)
