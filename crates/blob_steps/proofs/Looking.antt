@@ -14,6 +14,7 @@ use Rattle.store_model.specs.Answer.{answer_text}
 use Rattle.store_model.specs.Cost.{Reads}
 use Rattle.store_model.specs.Key.{key_order}
 use Rattle.store_model.specs.Play.{transact}
+use Rattle.store_model.specs.Script as script
 use Rattle.store_model.specs.Standing.{AllHeld, SameObjects}
 use Rattle.store_model.specs.Store.{Object, content_at}
 use Rattle.store_model.specs.Turn as turn
@@ -23,7 +24,7 @@ use Rattle.store_model.specs.World.{Outcome, transaction_of, with_session}
 use Rattle.txn.specs.Txns.{own_bytes}
 use Rattle.vault.specs.declared.memory.Memory.{Memory}
 use Rattle.vault.specs.declared.vault.Vault.{Vault}
-use Rattle.blob_steps.specs.Faults.{DamageAt, IsDamageAmong}
+use Rattle.blob_steps.specs.Faults.{DamageAt, IsDamageAmong, NamesGet}
 use Rattle.blob_steps.specs.declared.fault.StoreFault.{StoreFault}
 use Rattle.blob_steps.specs.declared.fault.StoreFault.TheVariants as store_fault
 use Rattle.store_model.specs.State.{State}
@@ -165,3 +166,15 @@ shown-among states key (store_fault.Damaged damaged_key link want got) damaged =
           → (one : State) × (state ≡ Some one) × IsDamage one link want got × (damaged_key ≡ key)
       among-one None is = absurd is
       among-one (Some one) is = (one, refl, is.1, is.0)
+
+-- and it is that of the key that is got
+pub shown-named : (one : Look) (session : ℕ) (key : List ℕ) (state : Option State) (fault : StoreFault) → one ≡ look.Get → DamageAt key state fault
+    → NamesGet (script.Session session (script.Transact (look_action one key))) fault
+shown-named one session key state store_fault.Failed got damaged = tt
+shown-named one session key state store_fault.OutOfMemory got damaged = tt
+shown-named one session key None (store_fault.Damaged damaged_key link want given) got damaged = absurd damaged
+shown-named one session key (Some state) (store_fault.Damaged damaged_key link want given) got damaged = (
+  session,
+  ap (λ (l : Look). script.Session session (script.Transact (look_action l key))) got
+      ∙ ap (λ (k : List ℕ). script.Session session (script.Transact (turn.Get k))) (sym damaged.0),
+)

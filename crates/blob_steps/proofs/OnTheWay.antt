@@ -4,6 +4,7 @@ use Rattle.std.specs.Io.KnownBytes.{Appends, prepend_known}
 use Rattle.std.specs.FinMap.{FinMap}
 use Rattle.std.specs.Prelude.{MatchResult}
 use Rattle.std.proofs.KnownBytes.{Appends-trans, Appends-nil}
+use Rattle.std.proofs.lemmas.List.{length-append}
 use Rattle.blob_base.specs.Faults.{CameFrom}
 use Rattle.blob_report.specs.Ends.{EndsPrinting, TookFront}
 use Rattle.blob_base.specs.declared.faults.IoFault.{IoFault}
@@ -14,16 +15,16 @@ use Rattle.blob_script.specs.declared.status.Status.{Status}
 use Rattle.blob_script.specs.declared.status.Status.TheVariants as status
 use Rattle.blob_steps.specs.Faults.{ShowsDamageFault}
 use Rattle.blob_steps.specs.Forms.{IsDamageOfState}
-use Rattle.blob_steps.specs.Faults.{IsDamageAmong, IsUndamagedFault}
+use Rattle.blob_steps.specs.Faults.{IsDamageAmong, IsGet, IsUndamagedFault, NamesGet}
 use Rattle.blob_steps.specs.declared.fault.StoreFault.{StoreFault}
 use Rattle.blob_steps.specs.declared.fault.StoreFault.TheVariants as store_fault
 use Rattle.blob_steps.specs.declared.world.World.{World}
 use Rattle.blob_steps.specs.declared.line.LineFault.{LineFault}
 use Rattle.blob_steps.specs.declared.line.LineFault.TheVariants as fault
-use Rattle.blob_steps.specs.Going.{BadLine, EndsReading, EndsStep, Going, GoingSo, PlaysOn, StartsOn, TakesLine, playing, reading_ending, step_ending}
+use Rattle.blob_steps.specs.Going.{BadLine, BeginsWith, EndsNaming, EndsReading, EndsStep, Going, GoingSo, PlaysOn, StartsOn, TakesLine, playing, reading_ending, step_ending}
 use Rattle.blob_steps.specs.Nexts.{IsNeverBuilt, IsUnbuilt}
 use Rattle.blob_steps.specs.Lines.{LineTaken, NoLine}
-use Rattle.blob_steps.specs.Runs.{Ended, EndedSo, Grew, IsUndamaged, MayCut, OnPlayed, OnResting, PagesAre, EndsAs, Ran, RunSurvives, ShowsDamage}
+use Rattle.blob_steps.specs.Runs.{Ended, EndedSo, Grew, HasGet, IsUndamaged, MayCut, OnPlayed, OnResting, PagesAre, EndsAs, Ran, RunSurvives, ShowsDamage, TellsGet}
 use Rattle.blob_steps.specs.Steps.{CameTo, Did, HaveBegun, StepSurvives, WorldStands, groups_in}
 use Rattle.store_model.specs.Cost.{Cost, Spent, with_line, with_lines}
 use Rattle.store_model.specs.World as model
@@ -34,7 +35,7 @@ use Rattle.store_model.specs.Images.{LeavesOnly, Wrote}
 use Rattle.store_model.specs.Key.{key_order}
 use Rattle.store_model.specs.Layout.{Layout}
 use Rattle.store_model.specs.Play.{AtInputEnd, AtMalformed, AtUnbuilt, PlayedLine, play, played_line, step_play, store_behind, taken_in, text_of}
-use Rattle.store_model.specs.Script.{Asks, Skipped, Step, lines_of}
+use Rattle.store_model.specs.Script.{Asks, Line, Skipped, Step, line_at, lines_of}
 use Rattle.store_model.specs.Space.{Block}
 use Rattle.store_model.specs.Standing.{AllHeld, AllStand}
 use Rattle.store_model.specs.State.{State}
@@ -61,6 +62,12 @@ pub ShowsDamage-ending : (one : StoreFault) (objects : FinMap key_order Object) 
 ShowsDamage-ending store_fault.Failed objects shows = tt
 ShowsDamage-ending store_fault.OutOfMemory objects shows = tt
 ShowsDamage-ending (store_fault.Damaged key link want got) objects shows = shows
+
+-- and names the key that the step gets
+pub EndsNaming-ending : (one : StoreFault) (step : Step) → NamesGet step one → EndsNaming step (step_ending one)
+EndsNaming-ending store_fault.Failed step names = tt
+EndsNaming-ending store_fault.OutOfMemory step names = tt
+EndsNaming-ending (store_fault.Damaged key link want got) step names = names
 
 -- a step that shows no damage ends the run with none
 pub undamaged-ending : (one : StoreFault) → IsUndamagedFault one → IsUndamaged (step_ending one)
@@ -484,6 +491,7 @@ pub GoingSo-first : (first taken : Option (List ℕ)) → GoingSo 1 first first 
 GoingSo-first first taken = record {
   grew = ([], Appends-nil taken);
   ends_on = λ script known. (script, known, λ layout start world. PlaysAlike layout start world script);
+  begins = λ script known. ([], script, known, refl, refl);
 } where
   PlaysAlike : (layout : Layout) (start : Store) (world : model.World) (script : List ℕ) → (playing layout 1 world (lines_of script)).end ≡ (play layout start script).end
   PlaysAlike layout start world script = ends-alike 1 (lines_of script) layout layout world (model.world_over start)
@@ -491,6 +499,44 @@ GoingSo-first first taken = record {
 -- the sink took more
 Grew-more : (old taken more : Option (List ℕ)) (text : List ℕ) → Grew old taken → Appends taken more text → Grew old more
 Grew-more old taken more text grew took = (grew.0 ++ text, Appends-trans old taken more grew.0 text grew.1 took)
+
+-- what is left goes on with the next line
+BeginsWith-next : (number : ℕ) (first left rest : Option (List ℕ)) (what : Line) → TakesLine number left rest what → BeginsWith number first left
+    → BeginsWith (number + 1) first rest
+BeginsWith-next number first left rest what takes begins script known =
+    let at = begins script known in
+    let taken : LineTaken (Some at.1) takes.line rest = subst (λ (l : Option (List ℕ)). LineTaken l takes.line rest) at.2 takes.taken in
+    next at.0 at.1 rest at.3 at.4 taken where
+      next : (before : List (List ℕ)) (here : List ℕ) (there : Option (List ℕ)) → lines_of script ≡ before ++ lines_of here → number ≡ length before + 1
+          → LineTaken (Some here) takes.line there
+          → (more : List (List ℕ)) × (after : List ℕ) × (there ≡ Some after) × (lines_of script ≡ more ++ lines_of after) × (number + 1 ≡ length more + 1)
+      next before here None is count taken = absurd taken
+      next before here (Some after) is count taken = (
+        before ++ takes.line ∷ [],
+        after,
+        refl,
+        is ∙ ap (λ (ls : List (List ℕ)). before ++ ls) taken ∙ sym (append_assoc before (takes.line ∷ []) (lines_of after)),
+        omega (arith, count, length-append before (takes.line ∷ [])),
+      )
+
+-- the line that is next gets a key
+HasGet-here : (number : ℕ) (first left rest : Option (List ℕ)) (step : Step) (key : List ℕ) → TakesLine number left rest (Asks step) → IsGet step key
+    → BeginsWith number first left → (text : List ℕ) → first ≡ Some text → HasGet text key
+HasGet-here number first left rest step key takes named begins text known =
+    let at = begins text known in
+    let taken : LineTaken (Some at.1) takes.line rest = subst (λ (l : Option (List ℕ)). LineTaken l takes.line rest) at.2 takes.taken in
+    here at.1 rest at.3 taken where
+      here : (left : List ℕ) (there : Option (List ℕ)) → lines_of text ≡ (begins text known).0 ++ lines_of left → LineTaken (Some left) takes.line there → HasGet text key
+      here left None is taken = absurd taken
+      here left (Some after) is taken = record {
+        before = (begins text known).0;
+        line = takes.line;
+        rest = lines_of after;
+        is = is ∙ ap (λ (ls : List (List ℕ)). (begins text known).0 ++ ls) taken;
+        step = step;
+        asks = subst (λ (n : ℕ). line_at n takes.line ≡ Asks step) (begins text known).4 takes.is;
+        gets = named;
+      }
 
 -- whatever the disk tells, a run goes on by a step, past a skipped line, and ends
 module _ (number : ℕ) (first left old taken : Option (List ℕ)) (going : GoingSo number first left old taken) where
@@ -500,31 +546,39 @@ module _ (number : ℕ) (first left old taken : Option (List ℕ)) (going : Goin
   GoingSo-next step rest more text takes built took = record {
     grew = Grew-more old taken more text going.grew took;
     ends_on = EndsOn-next number first left rest step takes built going.ends_on;
+    begins = BeginsWith-next number first left rest (Asks step) takes going.begins;
   }
 
   pub GoingSo-skipped : (rest : Option (List ℕ)) → TakesLine number left rest Skipped → GoingSo (number + 1) first rest old taken
-  GoingSo-skipped rest takes = record { grew = going.grew; ends_on = EndsOn-skipped number first left rest takes going.ends_on }
+  GoingSo-skipped rest takes = record {
+    grew = going.grew;
+    ends_on = EndsOn-skipped number first left rest takes going.ends_on;
+    begins = BeginsWith-next number first left rest Skipped takes going.begins;
+  }
 
   pub EndedSo-over : NoLine left → EndedSo first old taken status.Done
   EndedSo-over none = record {
     grew = going.grew;
     ends = EndsOn-here number first left AtInputEnd going.ends_on (end-over number left none);
+    gets = λ text known. tt;
   }
 
   EndedSo-bad : BadLine number left → EndedSo first old taken (status.Malformed number)
   EndedSo-bad bad = record {
     grew = going.grew;
     ends = EndsOn-here number first left (AtMalformed number) going.ends_on (end-bad number left bad);
+    gets = λ text known. tt;
   }
 
-  ended-so : (one : Status) → ((layout : Layout) (start : Store) (text : List ℕ) → first ≡ Some text → EndsAs one (play layout start text).end) → EndedSo first old taken one
-  ended-so one ends = record { grew = going.grew; ends = ends }
+  ended-so : (one : Status) → ((layout : Layout) (start : Store) (text : List ℕ) → first ≡ Some text → EndsAs one (play layout start text).end)
+      → ((text : List ℕ) → first ≡ Some text → TellsGet one text) → EndedSo first old taken one
+  ended-so one ends gets = record { grew = going.grew; ends = ends; gets = gets }
 
   pub EndedSo-reading : (one : Status) (before since : ℕ) → EndsReading one number left before since → EndedSo first old taken one
   EndedSo-reading (status.Malformed line) before since ends = subst (λ (n : ℕ). EndedSo first old taken (status.Malformed n)) (sym ends.0) (EndedSo-bad ends.1)
   EndedSo-reading (status.NotBuilt line) before since ends = absurd ends
-  EndedSo-reading status.ReadFault before since ends = ended-so status.ReadFault (λ layout start text known. tt)
-  EndedSo-reading status.OutOfMemory before since ends = ended-so status.OutOfMemory (λ layout start text known. tt)
+  EndedSo-reading status.ReadFault before since ends = ended-so status.ReadFault (λ layout start text known. tt) (λ text known. tt)
+  EndedSo-reading status.OutOfMemory before since ends = ended-so status.OutOfMemory (λ layout start text known. tt) (λ text known. tt)
   EndedSo-reading status.Done before since ends = absurd ends
   EndedSo-reading status.WriteFault before since ends = absurd ends
   EndedSo-reading status.DiskFault before since ends = absurd ends
@@ -533,28 +587,30 @@ module _ (number : ℕ) (first left old taken : Option (List ℕ)) (going : Goin
   EndedSo-reading (status.Damaged key link want got) before since ends = absurd ends
 
   pub EndedSo-step : (one : Status) (before since : ℕ) (step : Step) (rest : Option (List ℕ)) → TakesLine number left rest (Asks step) → IsNeverBuilt number step one
-      → EndsStep one before since → EndedSo first old taken one
-  EndedSo-step status.DiskFault before since step rest takes never ends = ended-so status.DiskFault (λ layout start text known. tt)
-  EndedSo-step status.OutOfMemory before since step rest takes never ends = ended-so status.OutOfMemory (λ layout start text known. tt)
-  EndedSo-step (status.Damaged key link want got) before since step rest takes never ends =
+      → EndsNaming step one → EndsStep one before since → EndedSo first old taken one
+  EndedSo-step status.DiskFault before since step rest takes never named ends = ended-so status.DiskFault (λ layout start text known. tt) (λ text known. tt)
+  EndedSo-step status.OutOfMemory before since step rest takes never named ends = ended-so status.OutOfMemory (λ layout start text known. tt) (λ text known. tt)
+  EndedSo-step (status.Damaged key link want got) before since step rest takes never named ends =
       ended-so (status.Damaged key link want got) (λ layout start text known. tt)
-  EndedSo-step (status.NotBuilt line) before since step rest takes never ends = subst (λ (n : ℕ). EndedSo first old taken (status.NotBuilt n)) (sym never.0) (record {
+      (λ text known. HasGet-here number first left rest step key takes named going.begins text known)
+  EndedSo-step (status.NotBuilt line) before since step rest takes never named ends = subst (λ (n : ℕ). EndedSo first old taken (status.NotBuilt n)) (sym never.0) (record {
     grew = going.grew;
     ends = EndsOn-here number first left (AtUnbuilt number) going.ends_on (end-unbuilt number left rest step takes never.1);
+    gets = λ text known. tt;
   })
-  EndedSo-step (status.Malformed line) before since step rest takes never ends = absurd ends
-  EndedSo-step status.ReadFault before since step rest takes never ends = absurd ends
-  EndedSo-step status.Done before since step rest takes never ends = absurd ends
-  EndedSo-step status.WriteFault before since step rest takes never ends = absurd ends
-  EndedSo-step (status.Refused why) before since step rest takes never ends = absurd ends
-  EndedSo-step status.Usage before since step rest takes never ends = absurd ends
+  EndedSo-step (status.Malformed line) before since step rest takes never named ends = absurd ends
+  EndedSo-step status.ReadFault before since step rest takes never named ends = absurd ends
+  EndedSo-step status.Done before since step rest takes never named ends = absurd ends
+  EndedSo-step status.WriteFault before since step rest takes never named ends = absurd ends
+  EndedSo-step (status.Refused why) before since step rest takes never named ends = absurd ends
+  EndedSo-step status.Usage before since step rest takes never named ends = absurd ends
 
   pub EndedSo-printing : (one : Status) (more : Option (List ℕ)) (frugal : Bool) (before since : ℕ) (text : List ℕ) → TookFront taken more text
       → EndsPrinting one frugal before since → EndedSo first old more one
   EndedSo-printing status.WriteFault more frugal before since text cut ends =
-      record { grew = Grew-more old taken more cut.text going.grew cut.took; ends = λ layout start script known. tt }
+      record { grew = Grew-more old taken more cut.text going.grew cut.took; ends = λ layout start script known. tt; gets = λ script known. tt }
   EndedSo-printing status.OutOfMemory more frugal before since text cut ends =
-      record { grew = Grew-more old taken more cut.text going.grew cut.took; ends = λ layout start script known. tt }
+      record { grew = Grew-more old taken more cut.text going.grew cut.took; ends = λ layout start script known. tt; gets = λ script known. tt }
   EndedSo-printing (status.Malformed line) more frugal before since text cut ends = absurd ends
   EndedSo-printing (status.NotBuilt line) more frugal before since text cut ends = absurd ends
   EndedSo-printing status.ReadFault more frugal before since text cut ends = absurd ends
@@ -596,10 +652,10 @@ module _ {D : Type 0} (g : Ghosts D) (layout : Layout) (start : Store) (before b
   }
 
 pub EndedSo-no_memory : (script taken : Option (List ℕ)) → EndedSo script taken taken status.OutOfMemory
-EndedSo-no_memory script taken = record { grew = ([], Appends-nil taken); ends = λ layout start text known. tt }
+EndedSo-no_memory script taken = record { grew = ([], Appends-nil taken); ends = λ layout start text known. tt; gets = λ text known. tt }
 
 pub EndedSo-no_disk : (script taken : Option (List ℕ)) → EndedSo script taken taken status.DiskFault
-EndedSo-no_disk script taken = record { grew = ([], Appends-nil taken); ends = λ layout start text known. tt }
+EndedSo-no_disk script taken = record { grew = ([], Appends-nil taken); ends = λ layout start text known. tt; gets = λ text known. tt }
 
 -- what a source has left is what a reader without bytes ahead has before it
 pub prepend-none : (ahead : List ℕ) (left : Option (List ℕ)) → ahead ≡ [] → left ≡ prepend_known ahead left

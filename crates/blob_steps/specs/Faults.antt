@@ -8,15 +8,21 @@ use Rattle.blob_steps.specs.declared.fault.StoreFault.{StoreFault}
 use Rattle.blob_steps.specs.declared.fault.StoreFault.TheVariants as fault
 use Rattle.store_model.specs.Disk.{Image}
 use Rattle.store_model.specs.Key.{key_order}
+use Rattle.store_model.specs.Script.{Session, Step, Transact}
 use Rattle.store_model.specs.Standing.{IsDamaged}
 use Rattle.store_model.specs.State.{State}
 use Rattle.store_model.specs.Store.{Object}
+use Rattle.store_model.specs.Turn.{Get}
 use Rattle.store_model.specs.Verify.{FailsFirst, IsDamage, computed, given}
 use Rattle.vault.specs.declared.fault.Cause.TheVariants as cause
 use Rattle.vault.specs.declared.fault.GatherFault.{GatherFault}
 use Rattle.vault.specs.declared.fault.GatherFault.TheVariants as gather
 use Rattle.vault.specs.declared.fault.LeadFault.{LeadFault}
 use Rattle.vault.specs.declared.fault.LeadFault.TheVariants as lead
+
+-- a step of a session that gets this key
+abbrev pub IsGet : Step → List ℕ → Type 0
+IsGet step key = (session : ℕ) × (step ≡ Session session (Transact (Get key)))
 
 -- what a fault of the disk is to a step
 abbrev pub store_fault : IoFault → StoreFault
@@ -82,6 +88,12 @@ DamageAt one (Some state) = DamageOf one state
 abbrev pub FailsAt : Image → ℕ → Option State → StoreFault → Type 0
 FailsAt image first None = IsUndamagedFault
 FailsAt image first (Some state) = FailsOn image first state
+
+-- Damage is that of the key that this step gets.
+abbrev pub NamesGet : Step → StoreFault → Type 0
+NamesGet step fault.Failed = ⊤
+NamesGet step fault.OutOfMemory = ⊤
+NamesGet step (fault.Damaged key link want got) = IsGet step key
 
 -- Damage is that of the state that stands under its key among these.
 abbrev pub IsDamageAmong : FinMap key_order State → StoreFault → Type 0

@@ -1,5 +1,5 @@
 -- A run on the way, in the words of the definitions.
-use Rattle.std.specs.Prelude.{◌≡◌, ℕ, ⊤, IsTrue, List, ◌∷◌, ◌++◌, length, Option, Some, None}
+use Rattle.std.specs.Prelude.{◌≡◌, ℕ, ◌+◌, ⊤, IsTrue, List, ◌∷◌, ◌++◌, length, Option, Some, None}
 use Rattle.std.specs.Io.KnownBytes.{Appends}
 use Rattle.blob_base.specs.Faults.{Rose}
 use Rattle.blob_base.specs.declared.faults.IoFault.TheVariants.{Failed, OutOfMemory}
@@ -11,13 +11,14 @@ use Rattle.blob_steps.specs.declared.line.LineFault.TheVariants as line
 use Rattle.blob_script.specs.declared.status.Status.{Status}
 use Rattle.blob_script.specs.declared.status.Status.TheVariants as status
 use Rattle.blob_steps.specs.declared.world.World.{World}
+use Rattle.blob_steps.specs.Faults.{IsGet}
 use Rattle.blob_steps.specs.Lines.{LineTaken}
 use Rattle.blob_steps.specs.Runs.{Grew, PagesAre}
 use Rattle.blob_steps.specs.Steps.{WorldStands}
 use Rattle.store_model.specs.Cost.{Cost, with_lines}
 use Rattle.store_model.specs.Layout.{Layout}
 use Rattle.store_model.specs.Play.{Played, PlayedLine, play, play_lines, store_behind, text_of}
-use Rattle.store_model.specs.Script.{Line, Malformed, lines_of, line_at}
+use Rattle.store_model.specs.Script.{Line, Malformed, Step, lines_of, line_at}
 use Rattle.store_model.specs.Standing.{AllHeld}
 use Rattle.store_model.specs.Store.{Store}
 use Rattle.store_model.specs.Survival.{ReadsAs, SurvivesAll, groups_of, store_at}
@@ -82,10 +83,17 @@ EndsOn number first left =
     → (rest : List ℕ) × (left ≡ Some rest)
     × ((layout : Layout) (start : Store) (world : model.World) → (playing layout number world (lines_of rest)).end ≡ (play layout start script).end)
 
+-- What is left of a known script begins with the line of this number.
+abbrev pub BeginsWith : ℕ → Option (List ℕ) → Option (List ℕ) → Type 0
+BeginsWith number first left =
+    (script : List ℕ) → first ≡ Some script
+    → (before : List (List ℕ)) × (rest : List ℕ) × (left ≡ Some rest) × (lines_of script ≡ before ++ lines_of rest) × (number ≡ length before + 1)
+
 -- A run on the way, whatever the disk tells.
 pub record GoingSo (number : ℕ) (first left old new : Option (List ℕ)) : Type 0 where
   pub grew : Grew old new
   pub ends_on : EndsOn number first left
+  pub begins : BeginsWith number first left
 
 -- what ends the reading of a line, other than well
 abbrev pub EndsReading : Status → ℕ → Option (List ℕ) → ℕ → ℕ → Type 0
@@ -101,6 +109,11 @@ EndsStep (status.NotBuilt line) before now = ⊤
 EndsStep status.OutOfMemory before now = ⊤
 EndsStep (status.Damaged key link want got) before now = ⊤
 EndsStep _ before now = ⊥
+
+-- damage that ends a step is that of the key that the step gets
+abbrev pub EndsNaming : Step → Status → Type 0
+EndsNaming step (status.Damaged key link want got) = IsGet step key
+EndsNaming step _ = ⊤
 
 -- what a step without an answer ends a run with
 abbrev pub step_ending : StoreFault → Status

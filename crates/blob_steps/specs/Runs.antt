@@ -1,5 +1,5 @@
 -- Runs of scripts, and what runs leave their ends with, in the words of the definitions.
-use Rattle.std.specs.Prelude.{◌≡◌, ℕ, ◌≤◌, ◌⊎◌, ⊤, Bool, false, IsTrue, List, ◌++◌, length, Option, Some}
+use Rattle.std.specs.Prelude.{◌≡◌, ℕ, ◌+◌, ◌≤◌, ◌⊎◌, ⊤, Bool, false, IsTrue, List, ◌∷◌, ◌++◌, length, Option, Some}
 use Rattle.std.specs.FinMap.{FinMap}
 use Rattle.std.specs.Io.KnownBytes.{Appends}
 use Rattle.blob_base.specs.Faults.{KeepsEnd, Rose}
@@ -11,6 +11,7 @@ use Rattle.io_ends.specs.declared.traits.Sink as sink_trait
 use Rattle.blob_script.specs.declared.status.Status.{Status}
 use Rattle.blob_script.specs.declared.status.Status.TheVariants as status
 use Rattle.blob_script.specs.Endings.{ending_of}
+use Rattle.blob_steps.specs.Faults.{IsGet}
 use Rattle.store_model.specs.Closing.{closing_text}
 use Rattle.store_model.specs.Cost.{Cost, Spent, with_lines}
 use Rattle.store_model.specs.Endures.{Endures, IsUnderWay}
@@ -18,6 +19,7 @@ use Rattle.store_model.specs.Images.{Wrote}
 use Rattle.store_model.specs.Key.{key_order}
 use Rattle.store_model.specs.Layout.{Layout}
 use Rattle.store_model.specs.Play.{AtInputEnd, AtMalformed, AtUnbuilt, End, Played, PlayedLine, play, store_behind, taken_in, text_of}
+use Rattle.store_model.specs.Script.{Asks, Step, line_at, lines_of}
 use Rattle.store_model.specs.Standing.{AllStand, IsDamaged}
 use Rattle.store_model.specs.Store.{Object, Store}
 use Rattle.store_model.specs.Survival.{Group, RestsAs}
@@ -141,7 +143,24 @@ EndsAs (status.Malformed line) end = end ≡ AtMalformed line
 EndsAs (status.NotBuilt line) end = end ≡ AtUnbuilt line
 EndsAs _ end = ⊤
 
--- How a run ended whatever the disk told: the sink took some text; and the script's end, which no store changes, is that of its play.
+-- A line of a script, behind these, gets this key.
+pub record HasGet (text key : List ℕ) : Type 0 where
+  pub before : List (List ℕ)
+  pub line : List ℕ
+  pub rest : List (List ℕ)
+  pub is : lines_of text ≡ before ++ line ∷ rest
+  pub step : Step
+  pub asks : line_at (length before + 1) line ≡ Asks step
+  pub gets : IsGet step key
+
+-- damage is told only of a key that the script gets
+abbrev pub TellsGet : Status → List ℕ → Type 0
+TellsGet (status.Damaged key link want got) text = HasGet text key
+TellsGet _ text = ⊤
+
+-- How a run ended whatever the disk told: the sink took some text; the script's end, which no store changes, is that of its play; and damage
+-- is told only of a key that the script gets.
 pub record EndedSo (script old new : Option (List ℕ)) (status : Status) : Type 0 where
   pub grew : Grew old new
   pub ends : (layout : Layout) (start : Store) (text : List ℕ) → script ≡ Some text → EndsAs status (play layout start text).end
+  pub gets : (text : List ℕ) → script ≡ Some text → TellsGet status text

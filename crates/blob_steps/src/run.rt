@@ -22,7 +22,7 @@ ghost use Rattle.blob_steps.specs.Known.{StoreKnown};
 ghost use Rattle.blob_steps.specs.Forms.{DidFresh, DidSteps, IsDamageOfState};
 ghost use Rattle.blob_steps.specs.Steps.{DoesFollow, DoesPlay, HaveBegun, IsWorld, StepSurvives, WorldKnown, WorldStands};
 ghost use Rattle.blob_steps.specs.Runs.{Ended, EndedSo, IsRaised, IsUndamaged, KeepsEnds, ShowsDamage, counts_of};
-ghost use Rattle.blob_steps.specs.Going.{EndsReading, EndsStep, Going, GoingSo, IsAccepted, IsRunning, StartsOn, reading_ending, step_ending};
+ghost use Rattle.blob_steps.specs.Going.{EndsNaming, EndsReading, EndsStep, Going, GoingSo, IsAccepted, IsRunning, StartsOn, reading_ending, step_ending};
 ghost use Rattle.blob_steps.specs.Nexts.{HasSession, IsAlways, IsLine, IsNeverBuilt, IsNext, IsUnbuilt, TellsLine, next_line};
 ghost use Rattle.recover.specs.Openings.{LeavesFrom};
 ghost use Rattle.vault.specs.Leads.{StoreStands};
@@ -113,6 +113,7 @@ impl<D: Disk> Run<D> {
         ensures damage { (world : ModelWorld) → WorldStands self.old.world world
             → IfErr result (λ status. ShowsDamage status world.store.objects) }
         ensures among { IfErr result IsDamageOfState }
+        ensures named { IfErr result (EndsNaming (model_step step)) }
         ensures whole { IsTrue D.tells → (world : ModelWorld) → WorldStands self.old.world world
             → AllHeld (D.story self.old.world.vault.disk).reads self.old.world.vault.memory.layout world.store.objects
             → IfErr result IsUndamaged }

@@ -16,7 +16,7 @@ ghost use Rattle.store_model.specs.World.{World as ModelWorld, checkpointed, lea
 ghost use Rattle.std.specs.FinMap as map;
 ghost use Rattle.txn.specs.Txns.{own_bytes};
 ghost use Rattle.blob_steps.specs.Breaks.{BreaksFault, NeverBreaks};
-ghost use Rattle.blob_steps.specs.Faults.{IsUndamagedFault};
+ghost use Rattle.blob_steps.specs.Faults.{IsUndamagedFault, NamesGet};
 ghost use Rattle.blob_steps.specs.Known.{StoreKnown};
 ghost use Rattle.blob_steps.specs.Looks.{show_of};
 ghost use Rattle.blob_steps.specs.declared.session.Looked.TheVariants as Looked;
@@ -184,6 +184,7 @@ impl<D: Disk> World<D> {
         ensures breaks { IsTrue D.tells → (world : ModelWorld) → WorldKnown self.old world
             → MatchResult result (λ _. NeverBreaks D.Disk self.old world (model_step step)) (BreaksFault D.Disk self.old world (model_step step)) }
         ensures stepped { Stepped D.Disk self.old self.new result }
+        ensures named { IfErr result (NamesGet (model_step step)) }
         ensures survives { StepSurvives D.Disk (model_step step) self.old self.new }
     {
         match step {
@@ -220,6 +221,7 @@ impl<D: Disk> World<D> {
             → MatchResult result (λ _. NeverBreaks D.Disk self.old world (script.Session session (model_action action)))
             (BreaksFault D.Disk self.old world (script.Session session (model_action action))) }
         ensures stepped { Stepped D.Disk self.old self.new result }
+        ensures named { IfErr result (NamesGet (script.Session session (model_action action))) }
         ensures only_reads { OnlyReads D.Disk self.old.vault.disk self.new.vault.disk }
     {
         let line = match action {
@@ -330,6 +332,7 @@ impl<D: Disk> World<D> {
             → MatchResult result (λ _. NeverBreaks D.Disk self.old world (script.Session session (script.Transact (look_action look key.now))))
             (BreaksFault D.Disk self.old world (script.Session session (script.Transact (look_action look key.now)))) }
         ensures stepped { Stepped D.Disk self.old self.new result }
+        ensures named { IfErr result (NamesGet (script.Session session (script.Transact (look_action look key.now)))) }
         ensures only_reads { OnlyReads D.Disk self.old.vault.disk self.new.vault.disk }
     {
         let line = match find(&self.vault, &mut self.sessions, session, key)? {

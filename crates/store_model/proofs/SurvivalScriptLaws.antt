@@ -5,11 +5,12 @@ use Rattle.std.specs.Prelude.{Contains, slice_get}
 use Rattle.std.proofs.lemmas.Bool.{cases_lt}
 use Rattle.store_model.specs.Disk.{Image}
 use Rattle.store_model.specs.Group.{Commit}
+use Rattle.store_model.specs.Images.{Story}
 use Rattle.store_model.specs.Layout.{Layout}
 use Rattle.store_model.specs.Play.{play}
 use Rattle.store_model.specs.Reading.{Found, Opened, Reads}
 use Rattle.store_model.specs.Store.{Store}
-use Rattle.store_model.specs.Survival.{DoesCommitVerify, Group, ReadsAs, Survives, groups_of, store_at}
+use Rattle.store_model.specs.Survival.{DoesCommitVerify, Group, ReadsAs, Survives, SurvivesAll, groups_of, store_at}
 use Rattle.store_model.proofs.SurvivalLaws.{IsThere, IsUnchanged, Survives-last, Survives-not_older, Survives-whole, found_by}
 use Rattle.store_model.proofs.SurvivalPlayLaws.{DoGroupsFollow, follow-at, play-follow}
 use Rattle.store_model.proofs.SurvivalRightLaws.{Survives-one_fewer}
@@ -78,6 +79,22 @@ Survives-near pages image layout start groups j k follow less most fewer more =
               | inr higher ↦ omega (arith, next, higher, gap, past)
             ]
           ]))
+    ]
+
+-- A disk never runs ahead of the answers: no image of any moment has a greater number than the store after those that were answered and the next.
+pub SurvivesAll-not_ahead : (pages : ℕ) (layout : Layout) (start : Store) (groups : List Group) (since answered : ℕ) (story : Story) (image : Image) (found : Found)
+    → DoGroupsFollow start groups → SurvivesAll pages layout start groups since answered story → story.left since image → Reads pages image (Opened found)
+    → found.last ≤ (store_at start groups (answered + 1)).last
+SurvivesAll-not_ahead pages layout start groups since answered story image found follow survives left reads =
+    let one = survives.each image left in
+    let j : ℕ = one.0 in
+    elim (Survives-last pages image layout start groups j found reads one.2) [
+      | inl same ↦
+          (let far : answered + 1 - j + j ≡ answered + 1 = omega (arith, one.1) in
+          omega (arith, same, rise-far start groups j (answered + 1 - j) follow, ap (λ (k : ℕ). (store_at start groups k).last) far))
+      | inr next ↦
+          (let far : answered - j + (j + 1) ≡ answered + 1 = omega (arith, one.1) in
+          omega (arith, next, rise-far start groups (j + 1) (answered - j) follow, ap (λ (k : ℕ). (store_at start groups k).last) far))
     ]
 
 -- A disk with a smaller number than that of the store after some groups of a script didn't survive with them.

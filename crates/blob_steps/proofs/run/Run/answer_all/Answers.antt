@@ -61,3 +61,8 @@ pub returns-then-not-branch-clause-breaks : goal.returns-then-not-branch-clause-
 returns-then-not-branch-clause-breaks g c = λ told layout image states one coming.
     let ended = c.in_ok-answer_line.ensures.breaks told layout image states one (c.loop-number.invariant.2 told layout image states one coming) in
     rw c.if-not-branch.true at ended
+
+pub returns-then-not-branch-clause-so : goal.returns-then-not-branch-clause-so
+returns-then-not-branch-clause-so g c =
+    let ended = c.in_ok-answer_line.ensures.so (g.S.Source.left c.args.source.now) (g.K.Sink.taken c.args.sink.now) c.loop-number.invariant.1 in
+    rw c.if-not-branch.true at ended

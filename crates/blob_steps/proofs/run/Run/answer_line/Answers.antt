@@ -64,7 +64,7 @@ returns-in_err-do_step-in-Step-clause-so g c = λ first old going.
     let read = subst (IsNext c.args.number left rest) c.in-Step.is c.in_ok-step.ensures.next in
     rw (p.1, p.2)
     (EndedSo-step c.args.number first left old (g.K.Sink.taken c.args.sink.now) going c.in_err-do_step-in-Step.field-0.0
-    (g.D.Disk.faults c.next.new.self.world.vault.disk) (g.D.Disk.faults c.do_step.new.self.world.vault.disk) (model_step c.in-Step.step) rest read.1 failed.never failed.ends)
+    (g.D.Disk.faults c.next.new.self.world.vault.disk) (g.D.Disk.faults c.do_step.new.self.world.vault.disk) (model_step c.in-Step.step) rest read.1 failed.never failed.named failed.ends)
 
 pub returns-in_err-print-in-Step-clause-going : goal.returns-in_err-print-in-Step-clause-going
 returns-in_err-print-in-Step-clause-going g c = λ start before begun since first old was going.

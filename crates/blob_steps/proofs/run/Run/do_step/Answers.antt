@@ -3,10 +3,11 @@ use Rattle.blob_script.specs.Words.{model_step}
 use Rattle.blob_script.specs.declared.status.Status.{Status}
 use Rattle.blob_steps.specs.Runs.{IsUndamaged, ShowsDamage}
 use Rattle.blob_steps.specs.Breaks.{EndsBreaking}
+use Rattle.blob_steps.specs.Going.{EndsNaming}
 use Rattle.blob_steps.specs.Steps.{DoesFollow, DoesPlay}
 use Rattle.blob_steps.proofs.Breaking.{EndsBreaking-ending}
 use Rattle.blob_steps.specs.declared.world.Played.{Played}
-use Rattle.blob_steps.proofs.OnTheWay.{ShowsDamage-ending, undamaged-ending}
+use Rattle.blob_steps.proofs.OnTheWay.{EndsNaming-ending, ShowsDamage-ending, undamaged-ending}
 use Rattle.blob_steps.proofs.run.Run.do_step.Goals as goal
 
 pub returns-in-Ok-Answered-clause-step : goal.returns-in-Ok-Answered-clause-step
@@ -44,3 +45,7 @@ pub returns-in-Err-clause-breaks : goal.returns-in-Err-clause-breaks
 returns-in-Err-clause-breaks g c = λ told world is.
     subst (EndsBreaking g.D.Disk c.args.self.now.world world (model_step c.args.step)) (sym c.step_status.ensures)
     (EndsBreaking-ending g.D.Disk c.args.self.now.world world (model_step c.args.step) c.in-Err.fault (c.in-Err.ensures.breaks told world is))
+
+pub returns-in-Err-clause-named : goal.returns-in-Err-clause-named
+returns-in-Err-clause-named g c =
+    subst (EndsNaming (model_step c.args.step)) (sym c.step_status.ensures) (EndsNaming-ending c.in-Err.fault (model_step c.args.step) c.in-Err.ensures.named)

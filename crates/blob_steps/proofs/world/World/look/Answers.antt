@@ -10,7 +10,7 @@ use Rattle.store_model.specs.Answer as answer
 use Rattle.store_model.specs.World.{transaction_of}
 use Rattle.txn.specs.Txns.{own_bytes}
 use Rattle.store_model.specs.Answer.{answer_text}
-use Rattle.blob_steps.proofs.Looking.{WasLooked, came-as, came-line, came-own, came-stored, look-moves, look-stepped, same-looked, shown-among}
+use Rattle.blob_steps.proofs.Looking.{WasLooked, came-as, came-line, came-own, came-stored, look-moves, look-stepped, same-looked, shown-among, shown-named}
 use Rattle.blob_steps.proofs.Breaking.{broken-stored, follows-look, line-stored, own-stored, unbroken-line, unbroken-stored}
 use Rattle.blob_steps.specs.Steps.{Follows}
 use Rattle.blob_steps.specs.declared.world.World.{World}
@@ -171,3 +171,10 @@ returns-clause-only_reads g c =
       | in-Stored+in_ok-line-in-Stored w ↦
           subst (λ (later : World _). OnlyReads g.D.Disk mine.vault.disk later.vault.disk) (sym w.self-is) w.in_ok-line-in-Stored.ensures.only_reads
     ]
+
+pub returns-in_err-line-in-Stored-clause-named : goal.returns-in_err-line-in-Stored-clause-named
+returns-in_err-line-in-Stored-clause-named g c =
+    let p = err_from_is_err_and c.from_residual-in_err-line-in-Stored.result c.from_residual-in_err-line-in-Stored.ensures.1 in
+    let shown = c.in_err-line-in-Stored.ensures in
+    rw (p.1, p.2)
+    (shown-named c.args.look c.args.session c.args.key.now (get c.args.self.now.vault.memory.relation.states c.args.key.now) c.in_err-line-in-Stored.field-0.0 shown.get shown.damaged)

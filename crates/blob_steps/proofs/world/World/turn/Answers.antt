@@ -216,3 +216,8 @@ returns-in_err-answer-clause-only_reads g c =
       | in-Put+in_ok-line-in-Put+in-Made-1 w ↦ only-same g.D.Disk mine w.put.new.self c.match-action.self w.put.ensures.vault w.self-is
       | in-Del+in_ok-line-in-Del w ↦ only-same g.D.Disk mine w.del.new.self c.match-action.self w.del.ensures.vault w.self-is
     ]
+
+pub returns-in_err-look-in-Get-clause-named : goal.returns-in_err-look-in-Get-clause-named
+returns-in_err-look-in-Get-clause-named g c =
+    let p = err_from_is_err_and c.from_residual-in_err-look-in-Get.result c.from_residual-in_err-look-in-Get.ensures.1 in
+    rw (p.1, p.2, c.in-Get.is) c.in_err-look-in-Get.ensures.named
