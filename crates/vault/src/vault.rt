@@ -78,7 +78,6 @@ impl<D: Disk> Vault<D> {
         // The disk read as the store in memory, and reads as it now; the next frame goes behind the log's gate.
         ensures found { IsTrue D.tells → IfOk result (λ vault.
             Reads (D.size disk) (D.story disk).reads (Opened (found_of vault.memory))) }
-        ensures keeps { IfOk result (λ vault. IsVault D.Disk vault.disk vault.memory vault.shut) }
         ensures shut { IfOk result (λ vault. vault.shut ≡ None) }
         ensures refused { IsTrue D.tells → IfErr result (λ failed. IsRead (D.size disk) (D.story disk).reads failed.fault) }
         ensures untouched { IfErr result (λ failed. (why : Why) → failed.fault ≡ Refused why → OnlyReads D.Disk disk failed.disk) }
@@ -187,7 +186,6 @@ impl<D: Disk> Vault<D> {
 
     /// Turns to the other half: writes the states to it, with a log of no bodies. A shut vault writes nothing.
     pub fn turn(&mut self) -> Result<(), LeadFault>
-        ensures keeps { IsVault D.Disk self.new.disk self.new.memory self.new.shut }
         ensures same { SameHeld self.old.memory self.new.memory }
         ensures keeping { self.new.keeping ≡ self.old.keeping }
         ensures log { OnOk result (self.new.memory.log ≡ turned_log self.old.memory.layout self.old.memory.log.half) }
@@ -216,7 +214,6 @@ impl<D: Disk> Vault<D> {
     pub fn lead(&mut self, alloc: Global, queue: &mut Queue) -> Result<Replies, LeadFault>
         requires whole { AreWhole queue.old }
         requires few { length queue.old ≤ 16 }
-        ensures keeps { IsVault D.Disk self.new.disk self.new.memory self.new.shut }
         ensures layout { self.new.memory.layout ≡ self.old.memory.layout }
         ensures led { (store : ModelStore) → StoreStands self.old.memory store
             → IfOk result (λ replies. Led D.Disk self.old.disk self.new.disk self.old.memory store queue.old
@@ -280,7 +277,6 @@ impl<D: Disk> Vault<D> {
             (D.faults self.old.disk) (D.faults self.new.disk) (D.frugal self.old.disk)) }
 
         // Nothing is written, and the vault stays as it is.
-        ensures keeps { IsVault D.Disk self.new.disk self.new.memory self.new.shut }
         ensures only { IsOnlyRead D.Disk self.old self.new }
     {
         self.core.gather(key, born, off, into)
@@ -308,7 +304,6 @@ impl<D: Disk> Vault<D> {
         ensures unread { IfErr result (IsUnread (λ number. ⊥) self.old.shut (D.faults self.old.disk) (D.faults self.new.disk) (D.frugal self.old.disk)) }
 
         // Nothing is written, and the vault stays as it is.
-        ensures keeps { IsVault D.Disk self.new.disk self.new.memory self.new.shut }
         ensures only { IsOnlyRead D.Disk self.old self.new }
     {
         self.core.verify(key)
