@@ -96,6 +96,7 @@ pub mod SurvivalAnsweredLaws
 pub mod SurvivalStateLaws
 pub mod SurvivalEntryLaws
 pub mod SurvivalFrameLaws
+pub mod FrameFitLaws
 pub mod SurvivalStoryLaws
 pub mod SurvivalAgainLaws
 pub mod ReportLaws

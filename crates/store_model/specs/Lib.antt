@@ -42,5 +42,6 @@ pub mod Report
 pub mod Windows
 pub mod Survival
 pub mod Endures
+pub mod Fits
 pub mod Stands
 pub mod Keeps

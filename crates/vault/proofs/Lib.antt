@@ -42,3 +42,4 @@ pub mod Lasting
 pub mod Written
 pub mod LeadImages
 pub mod LeadCrashes
+mod Fitting
