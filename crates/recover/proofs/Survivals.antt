@@ -14,7 +14,7 @@ use Rattle.store_model.specs.Disk.{HasPages, Image, SameOff, with_sync}
 use Rattle.store_model.specs.Frame.{Entry}
 use Rattle.store_model.specs.Half.{picked}
 use Rattle.store_model.specs.HalfRefusals.{FindsHalf}
-use Rattle.store_model.specs.Images.{LeavesOnly, Settled, Stayed, Story, Within, time_of}
+use Rattle.store_model.specs.Images.{LeavesOnly, Settled, Stayed, Within, time_of}
 use Rattle.store_model.specs.Key.{key_order}
 use Rattle.store_model.specs.Layout.{Layout, states_page, total_pages}
 use Rattle.store_model.specs.Log.{at_log, is_open}
@@ -24,7 +24,7 @@ use Rattle.store_model.specs.State.{State}
 use Rattle.store_model.proofs.DependenceLaws.{TakesEach-agree}
 use Rattle.store_model.proofs.FurtherLaws.{TakesEach-layout}
 use Rattle.store_model.proofs.HalfAgreeLaws.{FindsHalf-agree, HasBodies-agree}
-use Rattle.store_model.proofs.ImageLaws.{leaves_only, leaves_then, stays_settled}
+use Rattle.store_model.proofs.ImageLaws.{leaves_only, leaves_stayed, leaves_then, stays_settled}
 use Rattle.store_model.proofs.OffLaws.{picked-half, poured-data}
 use Rattle.store_model.proofs.UnseenLaws.{IsOtherHalfPage-unseen}
 use Rattle.recover.specs.Openings.{BeginsAt, LeavesFrom}
@@ -89,10 +89,6 @@ of-other layout start half picks p same is two page =
     let mine : half ≡ 1 - picks = omega (arith, is, two) in
     subst (λ (l : Layout). IsOtherHalfPage l picks p) same (of-page layout picks p (subst (λ (h : ℕ). IsOfHalf layout h p) mine page))
 
--- nothing is left by calls that write nothing but what was
-leaves-stayed : (P : Image → Type 0) (a b : Story) → Stayed a b → LeavesOnly P a b
-leaves-stayed P a b stayed = record { later = stayed.later; leaves = λ t image most left. inl (stayed.leaves t image most left); keeps = stayed.keeps }
-
 -- What a crash in a turn of a settled disk leaves, which read as a store in the other half: it reads as that store still.
 module _ {D : Type 0} (g : Ghosts D) (layout : Layout) (half last : ℕ) (states : FinMap key_order State) (old new : D) (told : IsTrue g.tells)
     (turned : InTurn g layout half last states old new) (settled : Settled (g.story old))
@@ -141,7 +137,7 @@ module _ {D : Type 0} (g : Ghosts D) (layout : Layout) (half last : ℕ) (states
   -- the second
   second-leaves : LeavesOnly (ReadsThrough (g.size old) (found_by layout last states) half before) (g.story turned.mid) (g.story new)
   second-leaves = elim turned.second [
-    | inl still ↦ leaves-stayed (ReadsThrough (g.size old) (found_by layout last states) half before) (g.story turned.mid) (g.story new) (still.stayed told)
+    | inl still ↦ leaves_stayed (ReadsThrough (g.size old) (found_by layout last states) half before) (g.story turned.mid) (g.story new) (still.stayed told)
     | inr written ↦
         (let stands = written.0 told in
         let mid : Image = (g.story turned.mid).reads in
@@ -191,7 +187,7 @@ LeavesFrom-then g P since mid new from only = record {
 pub LeavesFrom-read : {D : Type 0} (g : Ghosts D) (P : Image → Type 0) (since : ℕ) (mid new : D) → IsTrue g.tells → LeavesFrom g P since mid → OnlyReads g mid new
     → LeavesFrom g P since new
 LeavesFrom-read g P since mid new told from only =
-    LeavesFrom-then g P since mid new from (leaves-stayed P (g.story mid) (g.story new) (only.stayed told))
+    LeavesFrom-then g P since mid new from (leaves_stayed P (g.story mid) (g.story new) (only.stayed told))
 
 -- Where nothing was pending at a disk's start, what it read as is what is left from then on, if nothing is written.
 left-settled : {D : Type 0} (g : Ghosts D) (P : Image → Type 0) (old mid : D) (since : ℕ) → Settled (g.story old) → since ≡ (g.story old).time

@@ -175,6 +175,10 @@ leaves_none P a = record {
   keeps = λ t image most left. left;
 }
 
+-- calls that write nothing
+pub leaves_stayed : (P : Image → Type 0) (a b : Story) → Stayed a b → LeavesOnly P a b
+leaves_stayed P a b stayed = record { later = stayed.later; leaves = λ t image most left. inl (stayed.leaves t image most left); keeps = stayed.keeps }
+
 -- one call after another
 pub leaves_then : (P : Image → Type 0) (a b c : Story) → LeavesOnly P a b → LeavesOnly P b c → LeavesOnly P a c
 leaves_then P a b c first second = record {

@@ -99,4 +99,8 @@ pub mod SurvivalFrameLaws
 pub mod FrameFitLaws
 pub mod SurvivalStoryLaws
 pub mod SurvivalAgainLaws
+pub mod TellLaws
+pub mod StandsLaws
+pub mod KeepsLaws
+pub mod KeepsOneLaws
 pub mod ReportLaws

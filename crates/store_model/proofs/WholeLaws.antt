@@ -9,8 +9,9 @@ use Rattle.store_model.specs.Disk.{HasPages, Image}
 use Rattle.store_model.specs.Holds.{Holds, place_of}
 use Rattle.store_model.specs.Key.{key_order}
 use Rattle.store_model.specs.Layout.{Layout, data_page}
-use Rattle.store_model.specs.Reading.{Found, IsWhole}
-use Rattle.store_model.specs.State.{IsState, State, prefix_of}
+use Rattle.store_model.specs.Reading.{Found, IsWhole, Opened, Reads}
+use Rattle.store_model.specs.Stands.{DoAllTell}
+use Rattle.store_model.specs.State.{IsState, State, Tells, prefix_of}
 use Rattle.store_model.specs.Store.{Object}
 use Rattle.store_model.specs.Survival.{BothTold, IsObjectOn, NoneFree, ReadsAs}
 use Rattle.store_model.specs.Verify.{Verifies}
@@ -26,32 +27,17 @@ use Rattle.store_model.proofs.VerifyLaws.{Verifies-Holds}
 abbrev object_of : State → List ℕ → Object
 object_of state content = record { content = content; number = state.born; place = place_of state }
 
--- a state that verifies, with the first bytes of what its pages hold as its prefix
-record IsIntact (image : Image) (first : ℕ) (state : State) : Type 0 where
-  sound : IsState state
-  verifies : Verifies image first state
-  prefix : (content : List ℕ) → Holds image first state content → state.prefix ≡ prefix_of content
-
 -- an object that the disk tells by this state
 abbrev IsTold : Image → ℕ → State → Object → Type 0
 IsTold image first state object = IsObjectOn ⊥ image first state object
 
--- A state that verifies tells an object: the one with the content that its pages hold.
-intact-told : (image : Image) (first : ℕ) (state : State) → HasPages image → IsIntact image first state → (object : Object) × IsTold image first state object
-intact-told image first state pages intact =
-    let held = Holds-there image first state pages intact.sound in (
-      object_of state held.0,
-      record {
-        stands = record {
-          sound = intact.sound;
-          number = refl;
-          place = refl;
-          tells = Tells-LeadsTo held.0 state intact.sound (intact.prefix held.0 held.1)
-              (LeadsTo-Verifies image first state held.0 held.1 intact.verifies);
-        };
-        holds = λ none. held.1;
-      },
-    )
+-- A state that tells the content that its pages hold tells an object.
+content-told : (image : Image) (first : ℕ) (state : State) → IsState state → ((content : List ℕ) × Tells state content × Holds image first state content)
+    → (object : Object) × IsTold image first state object
+content-told image first state sound (content, tells, holds) = (
+  object_of state content,
+  record { stands = record { sound = sound; number = refl; place = refl; tells = tells }; holds = λ none. holds },
+)
 
 -- what is told under a key where one more state and its object stand under another, or under this one
 told-more : (image : Image) (first : ℕ) (here : Bool) (state : State) (object : Object) (others : Option State) (rest : Option Object)
@@ -76,28 +62,56 @@ objects-of image first (one ∷ states) each =
           (told-more image first (eq_by_cmp key_order key one.0) one.1 object.0 (find key_order key states) (get rest.0 key) object.1 (rest.1 key)),
     )
 
--- A disk that reads as a whole store reads as objects: their contents are what its pages hold.
-pub ReadsAs-whole : (pages : ℕ) (image : Image) (found : Found) → HasPages image → IsWhole pages image found
+-- A disk of which each state tells the content that its pages hold reads as objects with these contents.
+pub ReadsAs-told : (pages : ℕ) (image : Image) (found : Found) → Reads pages image (Opened found) → DoAllTell image found.layout found.states
     → (objects : FinMap key_order Object) × ReadsAs pages image found.layout objects found.last
-ReadsAs-whole pages image found whole is =
+ReadsAs-told pages image found reads tell =
     let first : ℕ = data_page found.layout in
-    let tuples = Gives-tuples pages image found is.reads.0 in
+    let tuples = Gives-tuples pages image found reads.0 in
     let objects = objects-of image first (entries found.states) (λ i one at.
     let there : get found.states one.0 ≡ Some one.1 = entry-there found.states i one at in
-    intact-told image first one.1 whole (record {
-      sound = (tuples one.0 one.1 there).stands;
-      verifies = is.verifies one.0 one.1 there;
-      prefix = λ content held. is.prefix one.0 one.1 content there held;
-    })) in (
+    content-told image first one.1 (tuples one.0 one.1 there).stands (tell one.0 one.1 there)) in (
       objects.0,
       record {
         found = found;
-        reads = is.reads;
+        reads = reads;
         layout_is = refl;
         last_is = refl;
         told = λ key. subst (λ (s : Option State). BothTold ⊥ image first s (get objects.0 key)) (sym (get-entries found.states key)) (objects.1 key);
       },
     )
+
+-- Each state of a whole store tells the content that its pages hold.
+pub DoAllTell-whole : (pages : ℕ) (image : Image) (found : Found) → HasPages image → IsWhole pages image found → DoAllTell image found.layout found.states
+DoAllTell-whole pages image found whole is key state there =
+    let first : ℕ = data_page found.layout in
+    let sound : IsState state = (Gives-tuples pages image found is.reads.0 key state there).stands in
+    let held = Holds-there image first state whole sound in (
+      held.0,
+      Tells-LeadsTo held.0 state sound (is.prefix key state held.0 there held.1) (LeadsTo-Verifies image first state held.0 held.1 (is.verifies key state there)),
+      held.1,
+    )
+
+-- A disk that reads as a whole store reads as objects: their contents are what its pages hold.
+pub ReadsAs-whole : (pages : ℕ) (image : Image) (found : Found) → HasPages image → IsWhole pages image found
+    → (objects : FinMap key_order Object) × ReadsAs pages image found.layout objects found.last
+ReadsAs-whole pages image found whole is = ReadsAs-told pages image found is.reads (DoAllTell-whole pages image found whole is)
+
+-- what a state that tells an object tells
+told-tell : (image : Image) (first : ℕ) (state : State) (object : Option Object) → BothTold ⊥ image first (Some state) object
+    → (content : List ℕ) × Tells state content × Holds image first state content
+told-tell image first state None told = absurd told
+told-tell image first state (Some object) told = (object.content, told.stands.tells, told.holds (λ none. none))
+
+-- Each state of a disk that reads as objects tells the content that its pages hold.
+pub DoAllTell-reads : (pages : ℕ) (image : Image) (layout : Layout) (objects : FinMap key_order Object) (last : ℕ) (found : Found)
+    → ReadsAs pages image layout objects last → Reads pages image (Opened found) → DoAllTell image found.layout found.states
+DoAllTell-reads pages image layout objects last found reading reads key state there =
+    let told = told-by NoneFree pages image layout objects last found reads reading in
+    let here : BothTold ⊥ image (data_page layout) (Some state) (get objects key) =
+    subst (λ (s : Option State). BothTold ⊥ image (data_page layout) s (get objects key)) there (told.2 key) in
+    told-tell image (data_page found.layout) state (get objects key)
+    (subst (λ (l : Layout). BothTold ⊥ image (data_page l) (Some state) (get objects key)) (sym told.1) here)
 
 -- a state that tells an object verifies, and has the first bytes of what its pages hold as its prefix
 told-verifies : (image : Image) (first : ℕ) (state : State) (object : Option Object) → BothTold ⊥ image first (Some state) object → Verifies image first state

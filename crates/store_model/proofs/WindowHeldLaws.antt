@@ -7,6 +7,7 @@ use Rattle.std.specs.FinMap.{FinMap, get, get-insert, get-remove}
 use Rattle.std.specs.Ordering.{eq_by_cmp}
 use Rattle.std.proofs.lemmas.Bool.{cases_Bool}
 use Rattle.std.proofs.lemmas.List.Elements.{All-head, All-tail}
+use Rattle.store_model.specs.Dependence.{IsContentPage}
 use Rattle.store_model.specs.Disk.{Image, SameOff, page_bytes}
 use Rattle.store_model.specs.Frame.{Del, Entry, Set, Write}
 use Rattle.store_model.specs.Half.{picked}
@@ -18,7 +19,7 @@ use Rattle.store_model.specs.Space.{owners}
 use Rattle.store_model.specs.Stands.{DoAllVerify}
 use Rattle.store_model.specs.State.{State}
 use Rattle.store_model.specs.Verify.{Verifies}
-use Rattle.store_model.specs.Windows.{InSecondWindow, IsBodyPage, IsPouredPage, MayFollow}
+use Rattle.store_model.specs.Windows.{HasPlaces, InSecondWindow, IsBodyPage, IsPouredPage, MayFollow}
 use Rattle.store_model.proofs.HeldLaws.{IsPoured-owned}
 use Rattle.store_model.proofs.LastSetLaws.{owners-states}
 use Rattle.store_model.proofs.OffLaws.{picked-half, poured-data}
@@ -33,6 +34,21 @@ pub data-first : (pages : ℕ) (base image : Image) (found : Found) (gives : Giv
 data-first pages base image found gives bytes entries p follows same past =
     same p (λ written. omega (arith, written.is, written.below, follows.fits, picked-half (base 0), past))
 
+-- No page of a state's content is one of the contents that the entries behind it set.
+pub IsPoured-unset : (layout : Layout) (states : FinMap key_order State) (entries : List Entry) (key : List ℕ) (state : State) (p : ℕ)
+    → HasPlaces layout states entries → get states key ≡ Some state → IsPoured layout state 0 p → IsContentPage layout entries p → ⊥
+IsPoured-unset layout states entries key state p places there poured content =
+    let free = IsContentPage-free layout states entries p places content in
+    let owned = IsPoured-owned layout state 0 p poured in
+    let same : owned.0 ≡ free.at = omega (arith, owned.1, free.is) in
+    omega (
+      arith,
+      owned.2,
+      owners-states states key state owned.0 there,
+      ap (λ (at : ℕ). owners (blocks_of_states states) at) same,
+      free.free,
+    )
+
 -- In the second each page of a found state's content does.
 pub poured-second : (pages : ℕ) (base image : Image) (found : Found) (gives : Gives pages base found) (bytes : List ℕ) (entries : List Entry) (key : List ℕ)
     (state : State) (p : ℕ) → InSecondWindow pages base image found gives bytes entries → get found.states key ≡ Some state
@@ -41,17 +57,7 @@ poured-second pages base image found gives bytes entries key state p window ther
     let past : data_page found.layout ≤ p = poured-data found.layout state 0 p poured in
     window.same p written ∙ data-first pages base window.laid found gives bytes entries p window.follows window.stands.same past where
       written : IsPouredPage found.layout (picked (base 0)) gives.gate entries p → ⊥
-      written (inl content) =
-          let free = IsContentPage-free found.layout found.states entries p window.follows.places content in
-          let owned = IsPoured-owned found.layout state 0 p poured in
-          let same : owned.0 ≡ free.at = omega (arith, owned.1, free.is) in
-          omega (
-            arith,
-            owned.2,
-            owners-states found.states key state owned.0 there,
-            ap (λ (at : ℕ). owners (blocks_of_states found.states) at) same,
-            free.free,
-          )
+      written (inl content) = IsPoured-unset found.layout found.states entries key state p window.follows.places there poured content
       written (inr gate) = omega (arith, poured-data found.layout state 0 p poured, gate, gives.log.within, picked-half (base 0))
 
 -- A content is held on each image that has its pages alike.

@@ -3,7 +3,7 @@ use Rattle.std.specs.Prelude.{ℕ, ◌≡◌, ◌≤◌, ◌⊎◌, ◌++◌, Li
 use Rattle.std.specs.List.{All, flat_map}
 use Rattle.store_model.specs.Disk.{Image}
 use Rattle.store_model.specs.Frame.{Entry, IsFrame, Spells, entry_spelling}
-use Rattle.store_model.specs.Half.{tuples_spelling}
+use Rattle.store_model.specs.Half.{IsHalf, tuples_spelling}
 use Rattle.store_model.specs.Images.{MayLeave, Story}
 use Rattle.store_model.specs.Layout.{Layout, data_pages}
 use Rattle.store_model.specs.Reading.{Found, last_number}
@@ -25,6 +25,8 @@ IsLost pages failed lost = ((failed ≡ []) × (lost ≡ [])) ⊎ ((entries : Li
 -- What is kept tells the store that was opened, and the frames of the groups since then.
 pub record HasFrames (layout : Layout) (kept : Kept) (opened : Found) (frames lost : List (List Entry)) : Type 0 where
   pub layout_is : opened.layout ≡ layout
+  -- the states are those that a half may have, so that their tuples tell them
+  pub half : IsHalf opened.layout opened.last opened.states
   pub states_are : kept.states ≡ tuples_spelling opened.states
   pub last_is : kept.last ≡ opened.last
   pub each : All (IsFrame (data_pages layout)) frames

@@ -37,6 +37,11 @@ Stands pages image opened frames k =
     ReadsWhole pages image (found_at opened frames k)
     ⊎ ((entries : List Entry) × (slice_get frames k ≡ Some entries) × ReadsPart pages image (found_at opened frames k) entries)
 
+-- A step that may write one more frame: a disk reads as what is found before it, or as that behind those of these entries of which all the
+-- states verify.
+abbrev pub StandsStep : ℕ → Image → Found → List Entry → Type 0
+StandsStep pages image before entries = ReadsWhole pages image before ⊎ ReadsPart pages image before entries
+
 -- each of these states tells the content that its pages hold
 abbrev pub DoAllTell : Image → Layout → FinMap key_order State → Type 0
 DoAllTell image layout states =

@@ -9,7 +9,7 @@ use Rattle.group_plan.specs.Plans.{IsEntryOf, committed, members_of}
 use Rattle.store_model.specs.Disk.{HasPages, Image}
 use Rattle.store_model.specs.Frame as model_frame
 use Rattle.store_model.specs.Group.{Commit, Member, commits_of, no_tally}
-use Rattle.store_model.specs.Images.{LeavesOnly, Stayed, Story}
+use Rattle.store_model.specs.Images.{LeavesOnly}
 use Rattle.store_model.specs.Judgement.{Ledger}
 use Rattle.store_model.specs.Layout.{data_pages}
 use Rattle.store_model.specs.Reading.{last_number}
@@ -18,7 +18,7 @@ use Rattle.store_model.specs.Standing.{AllHeld, SameObjects}
 use Rattle.store_model.specs.Store as model
 use Rattle.store_model.specs.Survival.{ReadsAs, SurvivesStep}
 use Rattle.store_model.specs.Windows.{IsBodyPage}
-use Rattle.store_model.proofs.ImageLaws.{leaves_more, leaves_none, leaves_only, leaves_then, leaves_whole}
+use Rattle.store_model.proofs.ImageLaws.{leaves_more, leaves_none, leaves_only, leaves_stayed, leaves_then, leaves_whole}
 use Rattle.store_model.proofs.SurvivalEntryLaws.{AreWrittenBy}
 use Rattle.txn.specs.Requests.{asked_of}
 use Rattle.txn.specs.declared.request.Request.{Request}
@@ -39,10 +39,6 @@ use Rattle.vault.proofs.Turnings.{turned-wrote}
 use Rattle.vault.proofs.Walks.{ArePlaced-members, commits-committed}
 use Rattle.vault.proofs.Written.{AreWrittenBy-frame}
 
--- calls that write nothing leave nothing new
-leaves-stayed : (P : Image → Type 0) (a b : Story) → Stayed a b → LeavesOnly P a b
-leaves-stayed P a b stayed = record { later = stayed.later; leaves = λ t image most left. inl (stayed.leaves t image most left); keeps = stayed.keeps }
-
 -- The windows of a commit, over the disk of a vault that isn't shut, with the store that memory is at.
 module _ {D : Type 0} (g : Ghosts D) (before : Memory) (queue : List Request) (places : List ℕ) (es : List Entry) (bytes : List ℕ) (old new : D) (store : model.Store)
     (tells : IsTrue g.tells) (vault : IsVault g old before None) (stands : StoreStands before store) (held : AllHeld (g.story old).reads before.layout store.objects)
@@ -58,7 +54,7 @@ module _ {D : Type 0} (g : Ghosts D) (before : Memory) (queue : List Request) (p
   -- the disk may have been turned,
   turn-leaves : LeavesOnly Step (g.story old) (g.story windows.first.base)
   turn-leaves = elim windows.first.turned [
-    | inl still ↦ leaves-stayed Step (g.story old) (g.story windows.first.base) (still.stayed tells)
+    | inl still ↦ leaves_stayed Step (g.story old) (g.story windows.first.base) (still.stayed tells)
     | inr turned ↦
         leaves_more (λ image. ReadsAs (g.size old) image before.layout store.objects store.last) Step (g.story old) (g.story windows.first.base) (λ image reads. inl reads)
         (Turn-survives g old windows.first.base before store tells vault stands held turned)

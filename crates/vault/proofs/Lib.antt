@@ -43,3 +43,5 @@ pub mod Written
 pub mod LeadImages
 pub mod LeadCrashes
 mod Fitting
+pub mod Standings
+pub mod Images

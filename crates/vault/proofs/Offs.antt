@@ -34,7 +34,7 @@ turn-before layout half p two past (inl (inr (inl header))) = omega (arith, head
 turn-before layout half p two past (inl (inr (inr gate))) = omega (arith, gate, past, two)
 
 -- nor is one of a body
-body-before : (layout : Layout) (half gate p : ℕ) (bytes : List ℕ) → half < 2 → gate + 1 + body_pages (length bytes) ≤ 511 → data_page layout ≤ p
+pub body-before : (layout : Layout) (half gate p : ℕ) (bytes : List ℕ) → half < 2 → gate + 1 + body_pages (length bytes) ≤ 511 → data_page layout ≤ p
     → IsBodyPage half gate bytes p → ⊥
 body-before layout half gate p bytes two fits past page = omega (arith, page.is, page.below, two, fits, past)
 

@@ -3,6 +3,7 @@ use Rattle.std.specs.Prelude.{ℕ, ◌≡◌, ◌++◌, List, [], ◌∷◌, map
 use Rattle.std.specs.List.{AllZip}
 use Rattle.std.specs.FinMap.{FinMap}
 use Rattle.blob_state.specs.declared.values.Print.{Print}
+use Rattle.disk_model.specs.declared.disk.Disk.{Ghosts}
 use Rattle.frame_codec.specs.Values.{model_entries, model_entry}
 use Rattle.frame_codec.specs.declared.entry.Entry.{Entry}
 use Rattle.frame_codec.specs.declared.entry.Write.{Write}
@@ -11,11 +12,30 @@ use Rattle.group_plan.specs.Plans.{IsEntryOf}
 use Rattle.store_model.specs.Frame.{body_spelling, entry_spelling}
 use Rattle.store_model.specs.Group.{Commit}
 use Rattle.store_model.specs.Half.{tuples_spelling}
+use Rattle.store_model.specs.Keeps.{Kept, KeepsImages}
 use Rattle.store_model.specs.Key.{key_order}
 use Rattle.store_model.specs.State.{State}
 use Rattle.txn.specs.declared.request.Request.{Request}
+use Rattle.vault.specs.Vaults.{found_of}
 use Rattle.vault.specs.declared.done.Done.{Done}
+use Rattle.vault.specs.declared.inner.Core.{Core}
 use Rattle.vault.specs.declared.keeping.Keeping.{Keeping}
+
+-- what is kept, in the words of the definitions
+abbrev pub kept_of : Keeping → Kept
+kept_of keeping = record {
+  states = keeping.opened.states;
+  last = keeping.opened.last;
+  groups = keeping.groups;
+  failed = keeping.failed;
+  forms = map (λ done. done.form) keeping.history;
+}
+
+-- What a vault keeps, and what memory has, tells what crashes of its disk left since a time, and what they may leave now. A vault that
+-- isn't shut has lost no group.
+pub record HasImages {D : Type 0} (g : Ghosts D) (vault : Core D) (since : ℕ) : Type 0 where
+  pub keeps : KeepsImages (g.size vault.disk) (g.story vault.disk) (found_of vault.memory) (kept_of vault.keeping) since
+  pub none : vault.shut ≡ None → vault.keeping.failed ≡ []
 
 -- the size and the digest of the content that a write sets, by its key, or none where the key goes
 abbrev pub print_of : Write → List ℕ × Option Print

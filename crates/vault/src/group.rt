@@ -1,6 +1,6 @@
 // The lead of a group: its plan, its frame and its contents.
 
-ghost use Rattle.std.specs.Prelude.{◌≡◌, ◌+◌, ◌-◌, ◌≤◌, ◌⊎◌, [], ◌∷◌, ◌++◌, Err, IfErr, IfOk, IsErrOf, IsTrue, None, OnErr, OnOk, Some, drop, length, map as each, zip};
+ghost use Rattle.std.specs.Prelude.{◌≡◌, ℕ, ◌+◌, ◌-◌, ◌≤◌, ◌⊎◌, [], ◌∷◌, ◌++◌, Err, IfErr, IfOk, IsErrOf, IsTrue, None, OnErr, OnOk, Some, drop, length, map as each, zip};
 ghost use Rattle.std.specs.List.{All, sum_by};
 ghost use Rattle.frame_codec.specs.Values.{model_entries};
 ghost use Rattle.group_plan.specs.Plans.{committed, members_of, model_reply};
@@ -12,12 +12,13 @@ ghost use Rattle.store_model.specs.Group.{commits_of, reply_of};
 ghost use Rattle.store_model.specs.Layout.{data_pages};
 ghost use Rattle.store_model.specs.Log.{body_pages};
 ghost use Rattle.store_model.specs.Space.{Apart, AreBlocks};
+ghost use Rattle.store_model.specs.Stands.{DoAllTell};
 ghost use Rattle.store_model.specs.Store.{Store as ModelStore};
 ghost use Rattle.vault.specs.Crashes.{LeadRests, LeadSurvives};
 ghost use Rattle.vault.specs.Faults.{IsShutBy};
 ghost use Rattle.vault.specs.declared.fault.LeadFault.TheVariants.{Shut};
 ghost use Rattle.vault.specs.declared.fault.LeadFault.TheVariants as lead_fault;
-ghost use Rattle.vault.specs.Keeps.{HasFailed, HasKept, done_of};
+ghost use Rattle.vault.specs.Keeps.{HasFailed, HasImages, HasKept, done_of};
 ghost use Rattle.vault.specs.Leads.{Led, MayHaveWritten, StoreStands, ledger_in};
 ghost use Rattle.vault.specs.Pours.{AreAt, AreWhole, HasRoom, Poured, pour_blocks, pour_pages, pours_of_all, requests_at};
 ghost use Rattle.vault.specs.Vaults.{InWindows, IsNextFrame, IsUnmade, IsVault, found_of, turn_pages, turn_syncs, turned_gate};
@@ -80,6 +81,9 @@ impl<D: Disk> Core<D> {
         ensures failed { (cause : Cause) → result ≡ Err (Shut cause) → self.new.keeping.failed ≡ body_spelling (model_entries entries) }
         ensures lost { (cause : Cause) → result ≡ Err (Shut cause) → self.new.keeping.history ≡ self.old.keeping.history }
         ensures lost_group { (cause : Cause) → result ≡ Err (Shut cause) → self.new.keeping.groups ≡ self.old.keeping.groups }
+        // Where the states behind it tell their contents, what is kept goes on telling what crashes leave.
+        ensures images { IsTrue D.tells → (since : ℕ) → HasImages D.Disk self.old since
+            → OnOk result (DoAllTell (D.story self.new.disk).reads self.new.memory.layout self.new.memory.relation.states) → HasImages D.Disk self.new since }
         ensures shut { IfErr result (IsShutBy None (D.faults self.old.disk) (D.faults self.new.disk) (D.frugal self.old.disk) self.new.shut) }
     {
         let body = encode_frame(alloc, &entries)?;
@@ -139,6 +143,9 @@ impl<D: Disk> Core<D> {
         ensures unkept { IsErrOf result lead_fault.OutOfMemory → self.new.keeping ≡ self.old.keeping }
         ensures failed { (cause : Cause) → self.old.shut ≡ None → result ≡ Err (Shut cause)
             → HasFailed (committed queue.old (members_of (ledger_in self.old.memory) queue.old)) self.old.keeping self.new.keeping }
+
+        // Whatever it answers, what is kept goes on telling what crashes leave.
+        ensures images { IsTrue D.tells → (since : ℕ) → HasImages D.Disk self.old since → HasImages D.Disk self.new since }
 
         // A vault that was shut stays so, and writes nothing.
         ensures closed { (cause : Cause) → self.old.shut ≡ Some cause → (result ≡ Err (Shut cause)) × (self.new ≡ self.old) }

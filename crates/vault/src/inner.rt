@@ -14,14 +14,14 @@ ghost use Rattle.store_model.specs.Disk.{Took};
 ghost use Rattle.store_model.specs.Images.{Settled};
 ghost use Rattle.store_model.specs.Layout.{Layout};
 ghost use Rattle.store_model.specs.Log.{body_pages};
-ghost use Rattle.store_model.specs.Reading.{Found as StoreFound, Opened, Reads};
+ghost use Rattle.store_model.specs.Reading.{Found as StoreFound, IsWhole, Opened, Reads};
 ghost use Rattle.store_model.specs.Standing.{AllHeld};
 ghost use Rattle.store_model.specs.Store.{Store as ModelStore};
 ghost use Rattle.store_model.specs.Survival.{ReadsAs};
 ghost use Rattle.vault.specs.Crashes.{TurnLeaves};
 ghost use Rattle.vault.specs.Faults.{IsShutBy, cause_of as model_cause};
 ghost use Rattle.vault.specs.declared.fault.LeadFault.TheVariants.{Shut};
-ghost use Rattle.vault.specs.Keeps.{IsBegun};
+ghost use Rattle.vault.specs.Keeps.{HasImages, IsBegun};
 ghost use Rattle.vault.specs.Leads.{Costs, IsOpenedAs, StoreStands};
 ghost use Rattle.vault.specs.Vaults.{IsSound, IsVault, SameHeld, found_of, turned_log};
 
@@ -88,6 +88,10 @@ impl<D: Disk> Core<D> {
         ensures survives { IsTrue D.tells → (found : StoreFound) (since : ℕ) → BeginsAt D.Disk disk since
             → Reads (D.size disk) (D.story disk).reads (Opened found)
             → MatchResult result (λ vault. LeavesFound D.Disk disk found since vault.disk) (λ failed. MayLeaveFound D.Disk disk found since failed.disk) }
+
+        // Over a disk that read as a whole store, what is kept tells what crashes leave from then on.
+        ensures images { IsTrue D.tells → (found : StoreFound) (since : ℕ) → BeginsAt D.Disk disk since → IsWhole (D.size disk) (D.story disk).reads found
+            → IfOk result (λ vault. HasImages D.Disk vault since) }
 
         // No page of the data area was written, and a crash leaves each as before.
         ensures wrote { IfOk result (λ vault. OnlyWrites D.Disk (IsMetadata (D.size disk) (D.story disk).reads) disk vault.disk) }
@@ -189,6 +193,9 @@ impl<D: Disk> Core<D> {
 
         // Whether it ends well or not, and whether the contents are whole or not, a crash at any moment of it leaves the store that it had.
         ensures survives { IsTrue D.tells → self.old.shut ≡ None → TurnLeaves D.Disk self.old.memory self.old.disk self.new.disk }
+
+        // Whatever it answers, what is kept goes on telling what crashes leave.
+        ensures images { IsTrue D.tells → (since : ℕ) → HasImages D.Disk self.old since → HasImages D.Disk self.new since }
 
         // A vault that was shut stays so, and writes nothing.
         ensures closed { (cause : Cause) → self.old.shut ≡ Some cause → (result ≡ Err (Shut cause)) × (self.new ≡ self.old) }

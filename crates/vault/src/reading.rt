@@ -11,6 +11,7 @@ ghost use Rattle.store_model.specs.Layout.{data_page};
 ghost use Rattle.store_model.specs.State.{State};
 ghost use Rattle.store_model.specs.Verify.{FailsFirst, IsDamage, LeadsTo, Verifies, computed};
 ghost use Rattle.vault.specs.Faults.{IsUnread};
+ghost use Rattle.vault.specs.Keeps.{HasImages};
 ghost use Rattle.vault.specs.Vaults.{IsVault, number_at};
 ghost use Rattle.vault.specs.declared.fault.Cause.{Cause};
 ghost use Rattle.vault.specs.declared.fault.GatherFault.TheVariants as gather_fault;
@@ -47,6 +48,9 @@ impl<D: Disk> Core<D> {
         ensures closed { (cause : Cause) → self.old.shut ≡ Some cause → (result ≡ Err (gather_fault.Shut cause)) × (self.new ≡ self.old) }
         ensures unread { IfErr result (IsUnread (λ number. (number ≡ number_at self.old.memory.relation.states key.now) × (number ≢ Some born)) self.old.shut
             (D.faults self.old.disk) (D.faults self.new.disk) (D.frugal self.old.disk)) }
+
+        // Whatever it answers, what is kept goes on telling what crashes leave.
+        ensures images { IsTrue D.tells → (since : ℕ) → HasImages D.Disk self.old since → HasImages D.Disk self.new since }
 
         // Nothing is written, and the vault stays as it is.
         ensures keeps { IsVault D.Disk self.new.disk self.new.memory self.new.shut }
@@ -90,6 +94,9 @@ impl<D: Disk> Core<D> {
 
         // No number is stale, since none was asked for.
         ensures unread { IfErr result (IsUnread (λ number. ⊥) self.old.shut (D.faults self.old.disk) (D.faults self.new.disk) (D.frugal self.old.disk)) }
+
+        // Whatever it answers, what is kept goes on telling what crashes leave.
+        ensures images { IsTrue D.tells → (since : ℕ) → HasImages D.Disk self.old since → HasImages D.Disk self.new since }
 
         // Nothing is written, and the vault stays as it is.
         ensures keeps { IsVault D.Disk self.new.disk self.new.memory self.new.shut }

@@ -18,7 +18,7 @@ ghost use Rattle.store_model.specs.Holds.{Holds, pages_across};
 ghost use Rattle.store_model.specs.Images.{Settled};
 ghost use Rattle.store_model.specs.Layout.{Layout, data_page};
 ghost use Rattle.store_model.specs.Log.{body_pages};
-ghost use Rattle.store_model.specs.Reading.{Found as StoreFound, Opened, Reads};
+ghost use Rattle.store_model.specs.Reading.{Found as StoreFound, IsWhole, Opened, Reads};
 ghost use Rattle.store_model.specs.Standing.{AllHeld};
 ghost use Rattle.store_model.specs.State.{State};
 ghost use Rattle.store_model.specs.Store.{Store as ModelStore};
@@ -27,7 +27,7 @@ ghost use Rattle.store_model.specs.Verify.{FailsFirst, IsDamage, LeadsTo, Verifi
 ghost use Rattle.vault.specs.Crashes.{LeadRests, LeadSurvives, TurnLeaves};
 ghost use Rattle.vault.specs.Faults.{IsShutBy, IsUnread};
 ghost use Rattle.vault.specs.Frames.{IsLeftUnmade, IsOnlyRead};
-ghost use Rattle.vault.specs.Keeps.{HasFailed, HasKept, IsBegun};
+ghost use Rattle.vault.specs.Keeps.{HasFailed, HasImages, HasKept, IsBegun};
 ghost use Rattle.vault.specs.Leads.{Costs, IsOpenedAs, Led, MayHaveWritten, StoreStands, ledger_in};
 ghost use Rattle.vault.specs.Pours.{AreWhole};
 ghost use Rattle.vault.specs.Vaults.{IsUnmade, IsVault, SameHeld, found_of, turned_log, number_at};
@@ -98,6 +98,10 @@ impl<D: Disk> Vault<D> {
         ensures survives { IsTrue D.tells → (found : StoreFound) (since : ℕ) → BeginsAt D.Disk disk since
             → Reads (D.size disk) (D.story disk).reads (Opened found)
             → MatchResult result (λ vault. LeavesFound D.Disk disk found since vault.disk) (λ failed. MayLeaveFound D.Disk disk found since failed.disk) }
+
+        // Over a disk that read as a whole store, what is kept tells what crashes leave from then on.
+        ensures images { IsTrue D.tells → (found : StoreFound) (since : ℕ) → BeginsAt D.Disk disk since → IsWhole (D.size disk) (D.story disk).reads found
+            → IfOk result (λ vault. HasImages D.Disk vault since) }
 
         // No page of the data area was written, and a crash leaves each as before.
         ensures wrote { IfOk result (λ vault. OnlyWrites D.Disk (IsMetadata (D.size disk) (D.story disk).reads) disk vault.disk) }
@@ -201,6 +205,9 @@ impl<D: Disk> Vault<D> {
         // Whether it ends well or not, and whether the contents are whole or not, a crash at any moment of it leaves the store that it had.
         ensures survives { IsTrue D.tells → self.old.shut ≡ None → TurnLeaves D.Disk self.old.memory self.old.disk self.new.disk }
 
+        // Whatever it answers, what is kept goes on telling what crashes leave.
+        ensures images { IsTrue D.tells → (since : ℕ) → HasImages D.Disk self.old since → HasImages D.Disk self.new since }
+
         // A vault that was shut stays so, and writes nothing.
         ensures closed { (cause : Cause) → self.old.shut ≡ Some cause → (result ≡ Err (Shut cause)) × (self.new ≡ self.old) }
         ensures shut { IfErr result (IsShutBy self.old.shut (D.faults self.old.disk) (D.faults self.new.disk) (D.frugal self.old.disk) self.new.shut) }
@@ -243,6 +250,9 @@ impl<D: Disk> Vault<D> {
         ensures failed { (cause : Cause) → self.old.shut ≡ None → result ≡ Err (Shut cause)
             → HasFailed (committed queue.old (members_of (ledger_in self.old.memory) queue.old)) self.old.keeping self.new.keeping }
 
+        // Whatever it answers, what is kept goes on telling what crashes leave.
+        ensures images { IsTrue D.tells → (since : ℕ) → HasImages D.Disk self.old since → HasImages D.Disk self.new since }
+
         // A vault that was shut stays so, and writes nothing.
         ensures closed { (cause : Cause) → self.old.shut ≡ Some cause → (result ≡ Err (Shut cause)) × (self.new ≡ self.old) }
         ensures shut { IfErr result (IsShutBy self.old.shut (D.faults self.old.disk) (D.faults self.new.disk) (D.frugal self.old.disk) self.new.shut) }
@@ -276,6 +286,9 @@ impl<D: Disk> Vault<D> {
         ensures unread { IfErr result (IsUnread (λ number. (number ≡ number_at self.old.memory.relation.states key.now) × (number ≢ Some born)) self.old.shut
             (D.faults self.old.disk) (D.faults self.new.disk) (D.frugal self.old.disk)) }
 
+        // Whatever it answers, what is kept goes on telling what crashes leave.
+        ensures images { IsTrue D.tells → (since : ℕ) → HasImages D.Disk self.old since → HasImages D.Disk self.new since }
+
         // Nothing is written, and the vault stays as it is.
         ensures only { IsOnlyRead D.Disk self.old self.new }
     {
@@ -302,6 +315,9 @@ impl<D: Disk> Vault<D> {
 
         // No number is stale, since none was asked for.
         ensures unread { IfErr result (IsUnread (λ number. ⊥) self.old.shut (D.faults self.old.disk) (D.faults self.new.disk) (D.frugal self.old.disk)) }
+
+        // Whatever it answers, what is kept goes on telling what crashes leave.
+        ensures images { IsTrue D.tells → (since : ℕ) → HasImages D.Disk self.old since → HasImages D.Disk self.new since }
 
         // Nothing is written, and the vault stays as it is.
         ensures only { IsOnlyRead D.Disk self.old self.new }

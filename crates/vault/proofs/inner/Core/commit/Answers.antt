@@ -1,4 +1,4 @@
-use Rattle.std.proofs.Common.{◌≡◌, ℕ, ◌+◌, ◌≤◌, ◌-◌, List, length, zip, refl, sym, ◌∙◌, ap, subst, arith}
+use Rattle.std.proofs.Common.{◌≡◌, ℕ, ◌+◌, ◌≤◌, ◌-◌, List, length, take, zip, rules, refl, sym, ◌∙◌, ap, subst, arith}
 use Rattle.std.specs.List.{sum_by}
 use Rattle.std.specs.FinMap.{FinMap}
 use Rattle.frame_codec.specs.Values.{model_entries}
@@ -15,9 +15,13 @@ use Rattle.store_model.specs.Reading.{GoesOn}
 use Rattle.store_model.specs.State.{State}
 use Rattle.vault.specs.Pours.{Pour, pour_pages, pours_of_all, requests_at}
 use Rattle.vault.specs.Vaults.{InWindows, IsVault, found_of, turn_pages, turn_syncs}
+use Rattle.vault.specs.declared.done.Done.{Done}
+use Rattle.vault.specs.declared.keeping.Keeping.{Keeping}
 use Rattle.vault.specs.declared.memory.Memory.{Memory}
 use Rattle.vault.proofs.Behind.{IsAtRest-made, IsHalf-behind, IsHeld-behind}
 use Rattle.vault.proofs.Bodies.{body-most, length-body}
+use Rattle.vault.proofs.Images.{HasImages-added, HasImages-lost}
+use Rattle.vault.proofs.Keepings.{take-front}
 use Rattle.vault.proofs.Sames.{IsAtRest-found, IsVault-reserved, InWindows-none, InWindows-same, InWindows-size}
 use Rattle.vault.proofs.inner.Core.commit.Goals as goal
 
@@ -127,3 +131,38 @@ returns-in_err-gain-clause-windows g c =
 pub returns-in_err-gain-clause-keeps : goal.returns-in_err-gain-clause-keeps
 returns-in_err-gain-clause-keeps g c =
     IsVault-reserved g.D.Disk c.args.self.now.disk c.args.self.now.memory c.reserve.new.self c.args.self.now.shut c.in_ok-reserve.ensures.states c.requires.vault
+
+pub returns-in-Err-clause-images : goal.returns-in-Err-clause-images
+returns-in-Err-clause-images g c tells since images failed =
+    let old = c.args.self.now in
+    let same = c.write.ensures.same in
+    let found : found_of c.write.new.self ≡ found_of old.memory =
+    λ i. record {
+      layout = same.layout i;
+      last = same.last i;
+      states = (ap (λ (r : RelationParts). r.states) same.relation ∙ c.in_ok-reserve.ensures.states) i;
+    } in
+    HasImages-lost g.D.Disk old c.shut_for.new.self since c.args.queue.now c.args.members.now c.args.entries tells
+    (subst (IsVault g.D.Disk old.disk old.memory) c.requires.open c.requires.vault) c.requires.open c.requires.frame (returns-in-Err-clause-windows g c) images
+    (ap (λ (m : Memory). found_of m) c.shut_for.ensures.memory ∙ found)
+    (ap (λ (k : Keeping). k.opened) c.shut_for.ensures.keeping ∙ c.lose.ensures.opened ∙ c.gain.ensures.opened)
+    (ap (λ (k : Keeping). k.history) c.shut_for.ensures.keeping ∙ c.lose.ensures.history ∙ ap (λ (n : ℕ). take n c.gain.new.self.history) c.len-done.ensures
+    ∙ ap (λ (all : List Done). take (length old.keeping.history) all) c.in_ok-gain.ensures.history ∙ take-front old.keeping.history _)
+    (ap (λ (k : Keeping). k.groups) c.shut_for.ensures.keeping ∙ c.lose.ensures.groups ∙ ap (λ (n : ℕ). take n c.gain.new.self.groups) c.len-groups.ensures
+    ∙ ap (λ (all : List ℕ). take (length old.keeping.groups) all) c.in_ok-gain.ensures.groups ∙ take-front old.keeping.groups _)
+    (ap (λ (k : Keeping). k.failed) c.shut_for.ensures.keeping ∙ c.lose.ensures.failed ∙ c.in_ok-body.ensures)
+    (λ yet. absurd (cc (sym c.shut_for.ensures.shut ∙ yet)))
+
+pub returns-clause-images : goal.returns-clause-images
+returns-clause-images g c tells since images told =
+    let old = c.args.self.now in
+    let same = c.write.ensures.same in
+    let made = c.make.ensures in
+    let es = c.args.entries in
+    let states : c.make.new.self.relation.states ≡ with_entries old.memory.relation.states es =
+    made.states ∙ ap (λ (m : FinMap key_order State). with_entries m es) (ap (λ (r : RelationParts). r.states) same.relation ∙ c.in_ok-reserve.ensures.states) in
+    let last : c.make.new.self.last ≡ old.memory.last + length es = omega (arith, made.last, same.last) in
+    HasImages-added g.D.Disk old (record { disk = c.write.new.disk; memory = c.make.new.self; shut = old.shut; keeping = c.gain.new.self }) since c.args.queue.now
+    c.args.members.now es tells (subst (IsVault g.D.Disk old.disk old.memory) c.requires.open c.requires.vault) c.requires.open c.requires.frame (returns-clause-windows g c)
+    images (subst (IsVault g.D.Disk c.write.new.disk c.make.new.self) c.requires.open (returns-clause-keeps g c)) c.requires.places (made.layout ∙ same.layout) states last
+    c.gain.ensures.opened c.in_ok-gain.ensures.history (search rules) c.gain.ensures.failed told

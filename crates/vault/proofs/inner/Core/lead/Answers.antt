@@ -37,6 +37,7 @@ use Rattle.vault.proofs.Keepings.{HasKept-none, HasKept-some}
 use Rattle.vault.proofs.Committing.{AreMade-members, left-made, room-made}
 use Rattle.vault.proofs.Disks.{commit-objects, commit-stands, none-commits, none-committed, none-counted, none-stands, some-counted}
 use Rattle.vault.proofs.Each.{AreAsked-members, each-is}
+use Rattle.vault.proofs.Images.{HasImages-same, lead-tells}
 use Rattle.vault.proofs.Joins.{requests-whole}
 use Rattle.vault.proofs.Makings.{AreNumbered-members}
 use Rattle.vault.proofs.Nexts.{IsNextFrame-planned}
@@ -421,3 +422,17 @@ pub returns-clause-survives : goal.returns-clause-survives
 returns-clause-survives g c tells yet =
     LeadSurvives-written g.D.Disk c.args.self.now.memory c.args.queue.now c.args.self.now.disk c.commit.new.self.disk tells
     (subst (IsVault g.D.Disk c.args.self.now.disk c.args.self.now.memory) yet c.requires.vault) c.requires.whole (returns-clause-wrote g c)
+
+pub returns-in_err-commit-clause-images : goal.returns-in_err-commit-clause-images
+returns-in_err-commit-clause-images g c tells since images =
+    c.in_err-commit.ensures.images tells since (HasImages-same g.D.Disk c.args.self.now c.take_space.new.self since tells c.take_space.ensures.same images) tt
+
+pub returns-clause-images : goal.returns-clause-images
+returns-clause-images g c tells since images =
+    let old = c.args.self.now in
+    let new = c.commit.new.self in
+    let vault = subst (IsVault g.D.Disk old.disk old.memory) (search rules) c.requires.vault in
+    let later = subst (IsVault g.D.Disk new.disk new.memory) c.in_ok-commit.ensures.ok c.commit.ensures.keeps in
+    let told = lead-tells g.D.Disk old.memory new.memory c.args.queue.now old.disk new.disk tells vault later (returns-clause-rests g c tells) images.keeps.told in
+    let made = c.in_ok-commit.ensures.images tells since (HasImages-same g.D.Disk old c.take_space.new.self since tells c.take_space.ensures.same images) told in
+    record { keeps = made.keeps; none = made.none }

@@ -1,4 +1,4 @@
-use Rattle.std.proofs.Common.{◌≡◌, ℕ, inl, sym, ap, ◌∙◌, subst, arith}
+use Rattle.std.proofs.Common.{◌≡◌, ℕ, None, inl, sym, ap, ◌∙◌, subst, arith}
 use Rattle.meta_log.specs.Logs.{Parts}
 use Rattle.recover.specs.Openings.{TookOpening, found_of as opened_of}
 use Rattle.relation.specs.Parts.{Parts as RelationParts, encoded_by}
@@ -8,6 +8,7 @@ use Rattle.vault.specs.Vaults.{found_of}
 use Rattle.vault.specs.declared.memory.Memory.{Memory}
 use Rattle.vault.proofs.Costings.{Costs-opened}
 use Rattle.vault.proofs.Gates.{IsAtRest-turned}
+use Rattle.vault.proofs.Images.{HasImages-opened}
 use Rattle.vault.proofs.Ledgers.{bytes-alike}
 use Rattle.vault.proofs.Readings.{IsOpenedAs-read}
 use Rattle.vault.proofs.inner.Core.open.Goals as goal
@@ -61,3 +62,14 @@ returns-in-Ok-begin-clause-costs g c store cost stands =
 
 pub returns-in-Err-begin-clause-survives : goal.returns-in-Err-begin-clause-survives
 returns-in-Err-begin-clause-survives g c tells found since begins reads = inl (c.in-Ok.ensures.survives tells found since begins reads)
+
+pub returns-in-Ok-begin-clause-images : goal.returns-in-Ok-begin-clause-images
+returns-in-Ok-begin-clause-images g c tells found since begins whole =
+    let disk = g.D.Disk in
+    let mine : Memory = c.in-Ok-begin.memory in
+    let made = c.in-Ok-begin.ensures in
+    let same : opened_of c.in-Ok.found ≡ found_of mine =
+    λ i. record { layout = sym made.layout i; last = sym made.last i; states = (sym made.relation i).states } in
+    HasImages-opened disk c.args.disk (record { disk = c.recover.new.disk; memory = mine; shut = None; keeping = c.in-Ok-begin.keeping }) found since tells whole
+    (subst (λ (one : Found). Reads (disk.size c.args.disk) (disk.story c.args.disk).reads (Opened one)) same (c.in-Ok.ensures.found tells))
+    c.recover.ensures.wrote.keeps.size made.sound.held (c.in-Ok.ensures.survives tells found since begins whole.reads) made.kept

@@ -1,10 +1,11 @@
-use Rattle.std.proofs.Common.{◌≡◌, Ok, Some, sym, ap, ◌∙◌, subst}
+use Rattle.std.proofs.Common.{◌≡◌, Ok, Some, refl, sym, ap, ◌∙◌, subst}
 use Rattle.std.specs.FinMap.{get}
 use Rattle.std.specs.Option.{option_copied}
 use Rattle.extent_io.specs.declared.verdict.Verdict.TheVariants.{Damaged, Whole}
 use Rattle.store_model.specs.Layout.{data_page}
 use Rattle.store_model.specs.State.{State}
 use Rattle.store_model.specs.Verify.{FailsFirst, IsDamage, LeadsTo, Verifies, computed}
+use Rattle.vault.proofs.Images.{HasImages-read}
 use Rattle.vault.proofs.Readings.{IsVault-read, held-blocks}
 use Rattle.vault.proofs.inner.Core.verify.Goals as goal
 
@@ -51,3 +52,15 @@ returns-clause-whole g c tells state there is =
     let value : c.in_ok-verify.field-0 ≡ Whole = cc is in
     subst (λ (s : State). Verifies (g.D.Disk.story c.args.self.now.disk).reads (data_page c.args.self.now.memory.layout) s) (sym same)
     (c.verify.ensures.whole tells (c.in_ok-verify.was ∙ ap Ok value))
+
+pub returns-in_err-verify-clause-images : goal.returns-in_err-verify-clause-images
+returns-in_err-verify-clause-images g c tells since images =
+    HasImages-read g.D.Disk c.args.self.now
+    (record { disk = c.verify.new.disk; memory = c.args.self.now.memory; shut = c.args.self.now.shut; keeping = c.args.self.now.keeping }) since tells
+    c.verify.ensures.only_reads refl refl refl images
+
+pub returns-clause-images : goal.returns-clause-images
+returns-clause-images g c tells since images =
+    HasImages-read g.D.Disk c.args.self.now
+    (record { disk = c.verify.new.disk; memory = c.args.self.now.memory; shut = c.args.self.now.shut; keeping = c.args.self.now.keeping }) since tells
+    c.verify.ensures.only_reads refl refl refl images
