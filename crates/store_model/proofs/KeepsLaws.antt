@@ -6,6 +6,7 @@ use Rattle.std.specs.List.{flat_map}
 use Rattle.std.proofs.lemmas.Grind.{flat_map-append}
 use Rattle.std.proofs.lemmas.List.Elements.{All-append, All-cons, All-nil}
 use Rattle.store_model.specs.Disk.{Image}
+use Rattle.store_model.specs.Fits.{DoesFrameFit}
 use Rattle.store_model.specs.Frame.{Entry, IsFrame, Spells, body_spelling, entry_spelling}
 use Rattle.store_model.specs.Half.{IsHalf, tuples_spelling}
 use Rattle.store_model.specs.Images.{LeavesOnly, MayLeave, Settled, Story}
@@ -13,6 +14,7 @@ use Rattle.store_model.specs.Keeps.{IsLost, Kept, KeepsImages}
 use Rattle.store_model.specs.Layout.{data_pages}
 use Rattle.store_model.specs.Reading.{Found, last_number, with_entries, with_frame}
 use Rattle.store_model.specs.Stands.{DoAllTell, ReadsWhole, Stands, StandsStep, found_at}
+use Rattle.store_model.proofs.FrameFitLaws.{DoFit-push}
 use Rattle.store_model.proofs.StandsLaws.{Stands-front, Stands-step, Stands-whole, found_at-next}
 
 -- Where no body is kept no frame is lost.
@@ -63,6 +65,7 @@ KeepsImages-begin pages story mine since half past each told = record {
   each = λ image left. (0, omega arith, inl (each image left));
   now = λ image left. inl (each image (story.since since story.time image past (omega arith) left));
   told = told;
+  fit = tt;
 }
 
 -- It goes on over calls that leave the store.
@@ -83,6 +86,7 @@ KeepsImages-on pages old new mine kept since keeps only told =
       each = left-on P (λ image k. Stands pages image keeps.opened (keeps.frames ++ keeps.lost) k) n since old new keeps.past keeps.each has only;
       now = left-now P (λ image. Stands pages image keeps.opened (keeps.frames ++ keeps.lost) n) old new keeps.now has only;
       told = told;
+      fit = keeps.fit;
     }
 
 -- And over the step of a group, where none was lost before.
@@ -135,11 +139,12 @@ module _ (pages : ℕ) (old new : Story) (mine : Found) (kept : Kept) (since : �
     now = left-now (λ image. StandsStep pages image mine entries) (λ image. Stands pages image opened further (length frames)) old new
         (λ image left. before image (length frames) (omega arith) (keeps.now image left)) step only;
     told = told;
+    fit = keeps.fit;
   }
 
   -- and where it ended well it is added, and the disk reads as the store behind it, and a crash leaves just that.
   pub KeepsImages-added : IsFrame (data_pages mine.layout) entries → Settled new → ReadsWhole pages new.reads (with_frame mine entries entries)
-      → DoAllTell new.reads mine.layout (with_entries mine.states entries)
+      → DoAllTell new.reads mine.layout (with_entries mine.states entries) → DoesFrameFit mine entries
       → KeepsImages pages new (with_frame mine entries entries)
       (record {
         states = kept.states;
@@ -148,7 +153,7 @@ module _ (pages : ℕ) (old new : Story) (mine : Found) (kept : Kept) (since : �
         failed = kept.failed;
         forms = kept.forms ++ map entry_spelling entries;
       }) since
-  KeepsImages-added frame settled reads told =
+  KeepsImages-added frame settled reads told fits =
       let long : length further ≡ suc (length frames) = length-append frames (entries ∷ []) ∙ omega arith in
       let at : with_frame mine entries entries ≡ found_at opened further (length further) =
       ap (λ (f : Found). with_frame f entries entries) keeps.at ∙ sym (found_at-next opened frames entries)
@@ -181,6 +186,7 @@ module _ (pages : ℕ) (old new : Story) (mine : Found) (kept : Kept) (since : �
             (subst (λ (f : Found). ReadsWhole pages image f) at
             (subst (λ (i : Image). ReadsWhole pages i (with_frame mine entries entries)) (sym (settled image left)) reads)));
         told = told;
+        fit = DoFit-push opened frames entries keeps.fit (subst (λ (f : Found). DoesFrameFit f entries) keeps.at fits);
       } where
         forms-more : (all : List (List Entry)) → map entry_spelling (flat_map (λ (es : List Entry). es) (all ++ entries ∷ []))
             ≡ map entry_spelling (flat_map (λ (es : List Entry). es) all) ++ map entry_spelling entries

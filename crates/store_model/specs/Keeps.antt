@@ -2,6 +2,7 @@
 use Rattle.std.specs.Prelude.{ℕ, ◌≡◌, ◌≤◌, ◌⊎◌, ◌++◌, List, [], ◌∷◌, length, map}
 use Rattle.std.specs.List.{All, flat_map}
 use Rattle.store_model.specs.Disk.{Image}
+use Rattle.store_model.specs.Fits.{DoFit}
 use Rattle.store_model.specs.Frame.{Entry, IsFrame, Spells, entry_spelling}
 use Rattle.store_model.specs.Half.{IsHalf, tuples_spelling}
 use Rattle.store_model.specs.Images.{MayLeave, Story}
@@ -35,7 +36,8 @@ pub record HasFrames (layout : Layout) (kept : Kept) (opened : Found) (frames lo
   pub lost_is : IsLost (data_pages layout) kept.failed lost
 
 -- What is kept of the images of a disk that read as a whole store at the time `since`: whatever a crash left since then has the first
--- so many of the groups, with at most a part of the next, whatever it leaves now has all of them, and every state tells its content.
+-- so many of the groups, with at most a part of the next, whatever it leaves now has all of them, every state tells its content, and every
+-- group took the places that fit.
 pub record KeepsImages (pages : ℕ) (story : Story) (mine : Found) (kept : Kept) (since : ℕ) : Type 0 where
   pub opened : Found
   pub frames : List (List Entry)
@@ -47,3 +49,5 @@ pub record KeepsImages (pages : ℕ) (story : Story) (mine : Found) (kept : Kept
   pub now : (image : Image) → MayLeave story image → Stands pages image opened (frames ++ lost) (length frames)
   -- each object's state tells the content that its pages hold
   pub told : DoAllTell story.reads mine.layout mine.states
+  -- and the places that each group's entries took are those that fit
+  pub fit : DoFit opened frames

@@ -11,6 +11,7 @@ use Rattle.recover.specs.Openings.{IsMetadata, LeavesFound}
 use Rattle.recover.specs.Turns.{InTurn, ReadsThrough}
 use Rattle.relation.specs.Changes.{with_entries}
 use Rattle.store_model.specs.Disk.{HasPages, Image}
+use Rattle.store_model.specs.Fits.{DoesFrameFit}
 use Rattle.store_model.specs.Frame as model_frame
 use Rattle.store_model.specs.Frame.{body_spelling, entry_spelling}
 use Rattle.store_model.specs.Half.{IsHalf, picked, tuples_spelling}
@@ -186,8 +187,8 @@ module _ {D : Type 0} (g : Ghosts D) (old new : Core D) (since : ℕ) (queue : L
       → new.memory.relation.states ≡ with_entries old.memory.relation.states es → new.memory.last ≡ old.memory.last + length es
       → new.keeping.opened ≡ old.keeping.opened → new.keeping.history ≡ old.keeping.history ++ map done_of (zip (requests_at queue places) es)
       → new.keeping.groups ≡ old.keeping.groups ++ (old.memory.last + length es) ∷ [] → new.keeping.failed ≡ old.keeping.failed
-      → DoAllTell (g.story new.disk).reads new.memory.layout new.memory.relation.states → HasImages g new since
-  HasImages-added now at layout states last opened history groups failed tell =
+      → DoAllTell (g.story new.disk).reads new.memory.layout new.memory.relation.states → DoesFrameFit mine told → HasImages g new since
+  HasImages-added now at layout states last opened history groups failed tell fits =
       let rest = now.rest tells refl in
       let last_is : new.memory.last ≡ last_number old.memory.last told =
       omega (arith, last, last-counted old.memory.last told frame.goes_on frame.spells.frame.numbers, length-map es model_entry) in
@@ -224,7 +225,7 @@ module _ {D : Type 0} (g : Ghosts D) (old new : Core D) (since : ℕ) (queue : L
               reads = reads;
               verify = DoAllVerify-told (g.size old.disk) (g.story new.disk).reads (with_frame mine told told) reads tell_found;
             })
-            tell_found);
+            tell_found fits);
         none = λ still. failed ∙ images.none yet;
       }
 

@@ -42,6 +42,6 @@ pub mod Lasting
 pub mod Written
 pub mod LeadImages
 pub mod LeadCrashes
-mod Fitting
+pub mod Fitting
 pub mod Standings
 pub mod Images

@@ -8,6 +8,7 @@ ghost use Rattle.relation.specs.Changes.{with_entries};
 ghost use Rattle.relation.specs.Parts.{encoded_by};
 ghost use Rattle.store_model.specs.Disk.{Took};
 ghost use Rattle.store_model.specs.Frame.{body_bytes, body_spelling};
+ghost use Rattle.store_model.specs.Fits.{DoesFrameFit};
 ghost use Rattle.store_model.specs.Group.{commits_of, reply_of};
 ghost use Rattle.store_model.specs.Layout.{data_pages};
 ghost use Rattle.store_model.specs.Log.{body_pages};
@@ -81,9 +82,11 @@ impl<D: Disk> Core<D> {
         ensures failed { (cause : Cause) → result ≡ Err (Shut cause) → self.new.keeping.failed ≡ body_spelling (model_entries entries) }
         ensures lost { (cause : Cause) → result ≡ Err (Shut cause) → self.new.keeping.history ≡ self.old.keeping.history }
         ensures lost_group { (cause : Cause) → result ≡ Err (Shut cause) → self.new.keeping.groups ≡ self.old.keeping.groups }
-        // Where the states behind it tell their contents, what is kept goes on telling what crashes leave.
+        // Where the states behind it tell their contents and the entries have the places that fit, what is kept goes on telling what crashes
+        // leave.
         ensures images { IsTrue D.tells → (since : ℕ) → HasImages D.Disk self.old since
-            → OnOk result (DoAllTell (D.story self.new.disk).reads self.new.memory.layout self.new.memory.relation.states) → HasImages D.Disk self.new since }
+            → OnOk result (DoAllTell (D.story self.new.disk).reads self.new.memory.layout self.new.memory.relation.states
+            × DoesFrameFit (found_of self.old.memory) (model_entries entries)) → HasImages D.Disk self.new since }
         ensures shut { IfErr result (IsShutBy None (D.faults self.old.disk) (D.faults self.new.disk) (D.frugal self.old.disk) self.new.shut) }
     {
         let body = encode_frame(alloc, &entries)?;

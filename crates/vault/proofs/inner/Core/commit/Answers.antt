@@ -165,4 +165,4 @@ returns-clause-images g c tells since images told =
     HasImages-added g.D.Disk old (record { disk = c.write.new.disk; memory = c.make.new.self; shut = old.shut; keeping = c.gain.new.self }) since c.args.queue.now
     c.args.members.now es tells (subst (IsVault g.D.Disk old.disk old.memory) c.requires.open c.requires.vault) c.requires.open c.requires.frame (returns-clause-windows g c)
     images (subst (IsVault g.D.Disk c.write.new.disk c.make.new.self) c.requires.open (returns-clause-keeps g c)) c.requires.places (made.layout ∙ same.layout) states last
-    c.gain.ensures.opened c.in_ok-gain.ensures.history (search rules) c.gain.ensures.failed told
+    c.gain.ensures.opened c.in_ok-gain.ensures.history (search rules) c.gain.ensures.failed told.0 told.1

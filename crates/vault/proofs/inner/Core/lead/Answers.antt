@@ -14,6 +14,7 @@ use Rattle.recover.proofs.Puttings.{length-spelled}
 use Rattle.relation.specs.Changes.{with_entries}
 use Rattle.relation.specs.Parts.{Parts as RelationParts, encoded_by, owned_by}
 use Rattle.store_model.specs.Frame.{body_bytes, body_spelling}
+use Rattle.store_model.specs.Fits.{DoesFrameFit}
 use Rattle.store_model.specs.Group.{Commit, commits_of, no_tally, reply_of, taken_blocks}
 use Rattle.store_model.specs.Judgement.{Ledger}
 use Rattle.store_model.specs.Key.{key_order}
@@ -29,7 +30,7 @@ use Rattle.vault.specs.Keeps.{HasKept, done_of}
 use Rattle.vault.specs.declared.keeping.Keeping.{Keeping}
 use Rattle.vault.specs.Leads.{IsLeadPage, Led, StoreStands, ledger_in}
 use Rattle.vault.specs.Pours.{AreStates, made_by, pour_blocks, pour_pages, pours_of_all, requests_at}
-use Rattle.vault.specs.Vaults.{IsNextFrame, IsVault}
+use Rattle.vault.specs.Vaults.{IsNextFrame, IsVault, found_of}
 use Rattle.vault.specs.declared.memory.Memory.{Memory}
 use Rattle.vault.proofs.Costings.{Costs-led, Costs-none}
 use Rattle.vault.proofs.Ledgers.{bytes-alike}
@@ -45,6 +46,7 @@ use Rattle.vault.proofs.LeadCrashes.{LeadSurvives-written}
 use Rattle.vault.proofs.Leading.{lead-apart, lead-blocks, lead-bytes, lead-count, lead-few, lead-last, lead-pages, lead-places, lead-within, lengthen-whole, requests-are}
 use Rattle.vault.proofs.Offs.{InWindows-lead, InWindows-off}
 use Rattle.vault.proofs.Restings.{LeadRests-led}
+use Rattle.vault.proofs.Fitting.{AreFitted-members}
 use Rattle.vault.proofs.Sames.{InWindows-same, IsVault-same, IsVault-spaced, found-store}
 use Rattle.vault.proofs.inner.Core.lead.Goals as goal
 
@@ -434,5 +436,15 @@ returns-clause-images g c tells since images =
     let vault = subst (IsVault g.D.Disk old.disk old.memory) (search rules) c.requires.vault in
     let later = subst (IsVault g.D.Disk new.disk new.memory) c.in_ok-commit.ensures.ok c.commit.ensures.keeps in
     let told = lead-tells g.D.Disk old.memory new.memory c.args.queue.now old.disk new.disk tells vault later (returns-clause-rests g c tells) images.keeps.told in
-    let made = c.in_ok-commit.ensures.images tells since (HasImages-same g.D.Disk old c.take_space.new.self since tells c.take_space.ensures.same images) told in
+    let same = c.take_space.ensures.same in
+    let mid : Memory = c.take_space.new.self in
+    let es : List Entry = c.in_ok-plan.plan.entries in
+    let ledger : Ledger = (ledger_by mid.relation.states mid.last c.states_bytes.result c.in_ok-space.space.pages) in
+    let ledger_is : ledger ≡ ledger_in old.memory =
+    λ i. ledger_by ((same.relation i).states) (same.last i) ((c.states_bytes.ensures.value ∙ ap (λ (l : Layout). states_bytes l) same.layout) i) (c.in_ok-space.ensures.pages i) in
+    let are = subst (λ (l : Ledger). AllZip IsEntryOf (committed c.args.queue.now (members_of l c.args.queue.now)) es) ledger_is c.in_ok-plan.ensures.planned.entries in
+    let fits : DoesFrameFit (found_of mid) (model_entries es) =
+    subst (λ (f : Found). DoesFrameFit f (model_entries es)) (found-store old.memory mid same)
+    (AreFitted-members (ledger_in old.memory) (no_tally (ledger_in old.memory)) c.args.queue.now es c.requires.whole are) in
+    let made = c.in_ok-commit.ensures.images tells since (HasImages-same g.D.Disk old mid since tells same images) (told, fits) in
     record { keeps = made.keeps; none = made.none }
